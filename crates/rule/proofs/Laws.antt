@@ -1,0 +1,14 @@
+-- The laws of the definitions, each file over one of them.
+pub mod Cases
+pub mod Refusal
+pub mod Rounding
+pub mod Settings
+pub mod Clock
+pub mod Signed
+pub mod Middle
+pub mod Heard
+pub mod Closed
+pub mod Stamp
+pub mod Forward
+pub mod Coded
+pub mod Tile

@@ -1,0 +1,121 @@
+-- What is promised of settings, clocks and one tile. Each statement is proved in proofs/Promises.antt, under its name in
+-- small letters. Assumes nothing.
+use mathlib.Core.Path.{_≡_}
+use mathlib.Core.Bool.{false}
+use mathlib.Core.List.{List, map}
+use mathlib.Core.Option.{some}
+use Prim.Native.Nat.{ℕ, _+_, _-_, _*_, _≤_, _<_, min, max}
+use lib.IntN.{pos, _-ℤ_}
+use lib.ListN.{length}
+use lib.Signed.{_≤ℤ_}
+use mir.Syntax.{w64}
+use mir.Val.{SFits}
+use Rattle.rule.specs.Settings.{drift-cost, step, step-of, settings-refusal, checked, number-of as settings-number, record-of}
+use Rattle.rule.specs.Clock.{reads, first-tick}
+use Rattle.rule.specs.Signed.{natural}
+use Rattle.rule.specs.Stamp.{Stamp, heard, _≼_, _≼*_, _∈_, earliest, latest, after, Within, All, All-but-one, unheard-of, unheard-in}
+use Rattle.rule.specs.Forward.{larger-at, D, P, correction}
+use Rattle.rule.specs.Closed.{closed-P}
+use Rattle.rule.specs.Tile.{silent-at, reading-at, own-stamp, neighbour-stamps, tile-P, tile-refusal, forwarded, number-of, P-of, correction-of}
+use Rattle.rule.specs.declared.settings.Settings.{Settings}
+use Rattle.rule.specs.declared.tile.Stamps.{Stamps}
+
+-- SETTINGS. c and J are rounded up: the least whole numbers that are enough
+unfoldable pub Cost-rounded-up : Type 0
+Cost-rounded-up =
+    (r a : ℕ) → (r * a ≤ drift-cost r a * (1000000 + r)) × (drift-cost r a * (1000000 + r) < r * a + (1000000 + r))
+
+unfoldable pub Step-rounded-up : Type 0
+Step-rounded-up =
+    (h r : ℕ) → (2 * h * (1000000 + r) ≤ step h r * 1000000) × (step h r * 1000000 < 2 * h * (1000000 + r) + 1000000)
+
+-- the number of the answer is 01's, and the record is handed out where it is 0
+unfoldable pub Settings-answered : Type 0
+Settings-answered =
+    (s : Settings) → (settings-number (checked s) ≡ settings-refusal s) × (settings-refusal s ≡ 0 → record-of (checked s) ≡ some s)
+
+-- CLOCKS. The tick of a reading is the least that reads enough, for every drift and phase
+unfoldable pub Tick-least : Type 0
+Tick-least = (p q v t : ℕ) → (v ≤ reads p q (first-tick p q v)) × (t < first-tick p q v → reads p q t < v)
+
+-- THE RULE. D is attained at some s, and at most the value at every s
+pub record Least (h own least most : ℕ) : Type 0 where
+  pub s : ℕ
+  pub attained : D h own least most ≡ larger-at h own least most s -ℤ pos h
+  pub below : (s : ℕ) → D h own least most ≤ℤ (larger-at h own least most s -ℤ pos h)
+
+unfoldable pub D-least : Type 0
+D-least = (h own least most : ℕ) → 0 < h → least ≤ most → Least h own least most
+
+-- 01's P, with its signed correction, three cases and silence, is what the code computes in constant time
+unfoldable pub Rule-closed : Type 0
+Rule-closed =
+    (h j : ℕ) (own least most : Stamp) → 0 < h → least ≼ most → P h j own least most ≡ pos (closed-P h j own least most)
+
+-- what follows is of a tile with checked settings, its own stamp and those of its two neighbours or more
+pub record Tile (s : Settings) (ns : List Stamp) : Type 0 where
+  pub checked : settings-refusal s ≡ 0
+  pub two : 2 ≤ length ns
+
+-- P is never below zero
+unfoldable pub P-exact : Type 0
+P-exact =
+    (s : Settings) (own : Stamp) (ns : List Stamp) → Tile s ns →
+    P (s .unit) (step-of s) own (earliest ns) (latest ns) ≡ pos (tile-P s own ns)
+
+-- a later stamp, or silence in its place, gives no earlier P
+unfoldable pub P-monotone : Type 0
+P-monotone =
+    (s : Settings) (own own′ : Stamp) (ns ns′ : List Stamp) → Tile s ns → own ≼ own′ → ns ≼* ns′ → unheard-of own′ + unheard-in ns′ ≤ 1 →
+    tile-P s own ns ≤ tile-P s own′ ns′
+
+-- all stamps n later give P n later
+unfoldable pub P-shifts : Type 0
+P-shifts =
+    (s : Settings) (own : Stamp) (ns : List Stamp) (n : ℕ) → Tile s ns → unheard-of own + unheard-in ns ≤ 1 →
+    tile-P s (after n own) (map (after n) ns) ≡ tile-P s own ns + n
+
+-- any one predecessor is arbitrary or silent, the others are heard from lo to hi
+pub data One-free (lo hi : ℕ) : (own : Stamp) → (neighbours : List Stamp) → Type 0 where
+  own-free : {own : Stamp} {ns : List Stamp} → All (Within lo hi) ns → One-free lo hi own ns
+  neighbour-free : {own : Stamp} {ns : List Stamp} → Within lo hi own → All-but-one (Within lo hi) ns → One-free lo hi own ns
+
+-- then P lies from lo - 3h to hi + 3h
+unfoldable pub Envelope : Type 0
+Envelope =
+    (s : Settings) (lo hi : ℕ) (own : Stamp) (ns : List Stamp) → Tile s ns → One-free lo hi own ns →
+    (lo ≤ tile-P s own ns + 3 * s .unit) × (tile-P s own ns ≤ hi + 3 * s .unit)
+
+-- whatever the other neighbours are, P lies between own and any one of them
+unfoldable pub Between-two : Type 0
+Between-two =
+    (s : Settings) (o a : ℕ) (ns : List Stamp) → Tile s ns → heard a ∈ ns →
+    (min (o - step-of s) (a + 3 * s .unit) ≤ tile-P s (heard o) ns) × (tile-P s (heard o) ns ≤ max o (a - 3 * s .unit))
+
+-- with all stamps heard, P lies from the earliest neighbour less 3h, or own, to the latest and 3h, or own
+unfoldable pub Forward-between : Type 0
+Forward-between =
+    (s : Settings) (o l m : ℕ) → settings-refusal s ≡ 0 → l ≤ m →
+    let p = natural (P (s .unit) (step-of s) (heard o) (heard l) (heard m)) in (min o (l - 3 * s .unit) ≤ p) × (p ≤ max o (m + 3 * s .unit))
+
+-- THE TILE. The answer's number is 01's; where it is 0 the answer has 01's P and correction
+unfoldable pub Tile-answered : Type 0
+Tile-answered =
+    (s : Settings) (x : Stamps) → (number-of (forwarded s x) ≡ tile-refusal s x)
+    × (tile-refusal s x ≡ 0 →
+    (P-of (forwarded s x) ≡ some (pos (tile-P s (own-stamp x) (neighbour-stamps x))))
+    × (correction-of (forwarded s x)
+    ≡ correction (s .unit) (step-of s) (own-stamp x) (earliest (neighbour-stamps x)) (latest (neighbour-stamps x))))
+
+-- places past the count, and stamps of silent places, don't matter
+unfoldable pub Past-count : Type 0
+Past-count =
+    (s : Settings) (x y : Stamps) → x .count ≡ y .count → ((k : ℕ) → k ≤ x .count → silent-at x k ≡ silent-at y k) →
+    ((k : ℕ) → k ≤ x .count → silent-at x k ≡ false → reading-at x k ≡ reading-at y k) → forwarded s x ≡ forwarded s y
+
+-- for accepted stamps P is from 0 to 2^41 - 1 + 3h, and the correction is an i64
+unfoldable pub P-range : Type 0
+P-range =
+    (s : Settings) (x : Stamps) → tile-refusal s x ≡ 0 →
+    let p = tile-P s (own-stamp x) (neighbour-stamps x) in
+    (p ≤ 2199023255551 + 3 * s .unit) × ((o : ℕ) → own-stamp x ≡ heard o → SFits w64 (pos o -ℤ pos p))

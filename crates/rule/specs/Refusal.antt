@@ -1,0 +1,19 @@
+-- Refusals: "the lowest number that applies is returned; a number is returned only under its condition". Assumes nothing.
+use mathlib.Core.Bool.{Bool, cond, _||_}
+use mathlib.Core.List.{List, [], _∷_}
+use Prim.Native.Nat.{ℕ}
+use lib.Dec.{ltb}
+
+infix 70 _when_
+-- a number and its condition
+pub data Test : Type 0 where
+  _when_ : (number : ℕ) (applies : Bool) → Test
+
+-- the number of the first test that applies, 0 where none does
+unfoldable pub first : List Test → ℕ
+first [] = 0
+first ((n when b) ∷ ts) = cond b n (first ts)
+
+-- v is below low or above high
+unfoldable pub outside : (low high v : ℕ) → Bool
+outside low high v = ltb v low || ltb high v

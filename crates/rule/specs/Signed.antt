@@ -1,0 +1,16 @@
+-- Whole numbers with a sign: the larger and the smaller of two, and the natural ones among them. Assumes nothing.
+use mathlib.Core.Bool.{cond}
+use Prim.Native.Nat.{ℕ}
+use lib.IntN.{ℤ, pos, negsuc}
+use lib.Signed.{leZ}
+
+unfoldable pub larger : ℤ → ℤ → ℤ
+larger a b = cond (leZ a b) b a
+
+unfoldable pub smaller : ℤ → ℤ → ℤ
+smaller a b = cond (leZ a b) a b
+
+-- a whole number that is not below zero, as a natural one
+unfoldable pub natural : ℤ → ℕ
+natural (pos n) = n
+natural (negsuc n) = 0

@@ -1,0 +1,82 @@
+-- Stamps: "A stamp is the reading at an arrival." "A silent predecessor counts as later than every stamp." Assumes nothing.
+use mathlib.Core.Bool.{cond}
+use mathlib.Core.List.{List, [], _∷_}
+use Prim.Native.Nat.{ℕ, _+_, _≤_, min, max}
+use lib.Dec.{eqb}
+
+infix 50 _≼_ _≼*_ _∈_
+pub data Stamp : Type 0 where
+  heard : ℕ → Stamp
+  silent : Stamp
+
+unfoldable pub earlier : Stamp → Stamp → Stamp
+earlier (heard a) (heard b) = heard (min a b)
+earlier (heard a) silent = heard a
+earlier silent x = x
+
+unfoldable pub later : Stamp → Stamp → Stamp
+later (heard a) (heard b) = heard (max a b)
+later (heard a) silent = silent
+later silent x = silent
+
+-- "min and max": the earliest and latest of some stamps; the earliest is over those heard, the latest is silent where one is
+unfoldable pub earliest : List Stamp → Stamp
+earliest [] = silent
+earliest (x ∷ xs) = earlier x (earliest xs)
+
+unfoldable pub latest : List Stamp → Stamp
+latest [] = heard 0
+latest (x ∷ xs) = later x (latest xs)
+
+-- no later than: silence is last
+pub data _≼_ : Stamp → Stamp → Type 0 where
+  in-order : {a b : ℕ} → a ≤ b → heard a ≼ heard b
+  last : {x : Stamp} → x ≼ silent
+
+-- n later; silence stays silence
+unfoldable pub after : ℕ → Stamp → Stamp
+after n (heard a) = heard (a + n)
+after n silent = silent
+
+-- "2^64 - 1 is silent"
+abbrev pub silence : ℕ
+silence = 18446744073709551615
+
+unfoldable pub stamp-of : ℕ → Stamp
+stamp-of v = cond (eqb v silence) silent (heard v)
+
+unfoldable pub code-of : Stamp → ℕ
+code-of (heard a) = a
+code-of silent = silence
+
+-- what the laws of the rule speak of: two lists of stamps, each no later than its fellow
+pub data _≼*_ : List Stamp → List Stamp → Type 0 where
+  none : [] ≼* []
+  both : {x y : Stamp} {xs ys : List Stamp} → x ≼ y → xs ≼* ys → (x ∷ xs) ≼* (y ∷ ys)
+
+-- a stamp among some
+pub data _∈_ (x : Stamp) : List Stamp → Type 0 where
+  here : {xs : List Stamp} → x ∈ (x ∷ xs)
+  there : {y : Stamp} {xs : List Stamp} → x ∈ xs → x ∈ (y ∷ xs)
+
+-- heard, from lo to hi
+pub data Within (lo hi : ℕ) : Stamp → Type 0 where
+  within : {a : ℕ} → lo ≤ a → a ≤ hi → Within lo hi (heard a)
+
+-- each of some stamps; each but one
+pub data All (Q : Stamp → Type 0) : List Stamp → Type 0 where
+  none : All Q []
+  more : {x : Stamp} {xs : List Stamp} → Q x → All Q xs → All Q (x ∷ xs)
+
+pub data All-but-one (Q : Stamp → Type 0) : List Stamp → Type 0 where
+  this : {x : Stamp} {xs : List Stamp} → All Q xs → All-but-one Q (x ∷ xs)
+  later-on : {x : Stamp} {xs : List Stamp} → Q x → All-but-one Q xs → All-but-one Q (x ∷ xs)
+
+-- how many are silent
+unfoldable pub unheard-of : Stamp → ℕ
+unheard-of (heard a) = 0
+unheard-of silent = 1
+
+unfoldable pub unheard-in : List Stamp → ℕ
+unheard-in [] = 0
+unheard-in (x ∷ xs) = unheard-of x + unheard-in xs
