@@ -5,7 +5,7 @@
 // checked the settings and stamps.
 pub mod clock;
 pub mod forwarding;
-mod rounding;
+pub mod rounding;
 pub mod settings;
 pub mod tile;
 

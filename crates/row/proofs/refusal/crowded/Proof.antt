@@ -1,0 +1,67 @@
+-- `row::refusal::crowded` meets its contract. The loop's invariant: no column passed is crowded. Assumes nothing.
+use mathlib.Core.Path.{_≡_, sym}
+use mathlib.Core.Bool.{false}
+use Prim.Native.Nat.{_-_, _≤_}
+use native.Mathlib.Omega.{arith}
+use borrow.Author.Tests.{lt-ltb, le-ltb}
+use Rattle.row.specs.Columns.{predecessors}
+use Rattle.row.specs.Refusal.{any-below, faulty-among, crowded}
+use Rattle.row.proofs.Laws.AnyBelow.{some-below, none-at-zero, none-below-more}
+use Rattle.row.proofs.refusal.crowded.Statement.{statement}
+use Rattle.row.proofs.refusal.crowded.Tie as tie
+
+abbrev Inv-loop : tie.InvT-loop
+Inv-loop width marks c₀ c = (c ≤ width) × (any-below c (crowded width marks) ≡ false)
+
+abbrev μ-loop : tie.MeasureT-loop
+μ-loop width marks c₀ c = width - c
+
+loop-holds : tie.Need-loop-holds Inv-loop μ-loop
+loop-holds c = let a = c .before .args in (omega arith, none-at-zero (crowded (a .width) (a .marks .now)))
+
+gathered-requires : tie.Need-gathered-requires Inv-loop μ-loop
+gathered-requires c κs = omega arith
+
+returns : tie.Need-returns Inv-loop μ-loop
+unfolding crowded
+returns c =
+    let m = c .before in
+    let l = m .before .before in
+    let a = l .before .before .args in
+    let k = l .loop .c in
+    sym (some-below (crowded (a .width) (a .marks .now)) (a .width) k (m .before .loop-test .taken) (lt-ltb 1 (faulty-among (a .marks .now) (predecessors (a .width) k)) (omega (arith, m .gathered .ensures, c .if1 .taken))))
+
+add-c : tie.Need-add-c Inv-loop μ-loop
+add-c c = omega arith
+
+loop-less : tie.Need-loop-less Inv-loop μ-loop
+loop-less c = omega arith
+
+loop-again : tie.Need-loop-again Inv-loop μ-loop
+unfolding crowded
+loop-again c =
+    let m = c .before in
+    let l = m .before .before in
+    let a = l .before .before .args in
+    let k = l .loop .c in
+    (omega arith, none-below-more (crowded (a .width) (a .marks .now)) k (l .loop .inv .1) (le-ltb 1 (faulty-among (a .marks .now) (predecessors (a .width) k)) (omega (arith, m .gathered .ensures, c .if1 .left))))
+
+returns-2 : tie.Need-returns-2 Inv-loop μ-loop
+returns-2 c =
+    let l = c .before in
+    let all : l .loop .c ≡ l .before .before .args .width = omega arith in
+    sym (rw all at (l .loop .inv .1))
+
+pub crowded-spec : {M : Type 1} → statement M
+crowded-spec =
+    tie.close
+    (tie.spec
+    Inv-loop
+    μ-loop
+    loop-holds
+    gathered-requires
+    returns
+    add-c
+    loop-less
+    loop-again
+    returns-2)

@@ -1,0 +1,11 @@
+pub mod Columns
+pub mod Call
+pub mod Window
+pub mod Refusal
+pub mod Run
+pub mod Reach
+pub mod Program
+pub mod Witness
+pub mod Tiles
+pub mod Growth
+pub mod Shift

@@ -1,0 +1,52 @@
+// Where a tile's predecessors and links stand. The predecessors of a tile are three or four
+// adjacent columns: three, and one more where the column is the third from an end.
+ghost use mathlib.Core.Path.{_≡_};
+ghost use Prim.Native.Nat.{_≤_, _<_, _/_};
+ghost use lib.ListN.{length};
+ghost use Rattle.row.specs.Columns.{links-before};
+ghost use Rattle.row.specs.Window.{first-sender, four-senders};
+ghost use Rattle.row.specs.Call.{marked};
+
+// The first predecessor's column.
+pub fn first_sender(width: usize, c: usize) -> usize
+    requires { ⌜ (6 ≤ width) × (c < width) × (width ≤ 256) ⌝ }
+    ensures { λ r. ⌜ r ≡ first-sender width c ⌝ }
+{
+    if c <= 2 {
+        return 0;
+    }
+    if width - 2 <= c {
+        return width - 3;
+    }
+    c - 1
+}
+
+// Whether the tile has four predecessors.
+pub fn four_senders(width: usize, c: usize) -> bool
+    requires { ⌜ (6 ≤ width) × (c < width) × (width ≤ 256) ⌝ }
+    ensures { λ r. ⌜ r ≡ four-senders width c ⌝ }
+{
+    c == 2 || c == width - 3
+}
+
+// The place of the tile's first link.
+pub fn first_link(width: usize, c: usize) -> usize
+    requires { ⌜ (6 ≤ width) × (c < width) × (width ≤ 256) ⌝ }
+    ensures { λ r. ⌜ r ≡ links-before width c ⌝ }
+{
+    if c <= 2 {
+        return 3 * c;
+    }
+    if c <= width - 3 {
+        return 3 * c + 1;
+    }
+    3 * c + 2
+}
+
+// Whether a column is marked faulty.
+pub fn marked(marks: &[u8], c: usize) -> bool
+    requires { ⌜ c / 8 < length (now marks) ⌝ }
+    ensures { λ r. ⌜ r ≡ marked (now (marks .entry)) c ⌝ }
+{
+    (marks[c / 8] >> (c % 8)) % 2 == 1
+}
