@@ -1,0 +1,422 @@
+//! "Row": one row of a wall from the row before, with refusals 21 to 26.
+
+use crate::clock::{first_tick, reading};
+use crate::settings::Settings;
+use crate::shape::{is_marked, Shape};
+use crate::tile::{tile, Stamps};
+use crate::{refuse_if, Refused, Tick, LATEST_ARRIVAL, SILENT};
+
+/// What a row call is lent to read.
+#[derive(Clone, Copy, Debug)]
+pub struct Lent<'a> {
+    /// W times of the row before; a faulty tile's is not read.
+    pub before: &'a [u64],
+    /// The fault marks of the row before, one bit a column.
+    pub marks: &'a [u8],
+    /// W drifts.
+    pub drifts: &'a [u16],
+    /// By tile and then by sender column: a delay from a correct sender, an arrival or silence from
+    /// a faulty one.
+    pub links: &'a [u64],
+}
+
+/// The earliest and the latest time of a written row, over all W tiles.
+#[derive(Clone, Copy, Debug, PartialEq, Eq)]
+pub struct Ends {
+    /// The earliest time.
+    pub earliest: u64,
+    /// The latest time.
+    pub latest: u64,
+}
+
+/// A wall: its settings and the tables of its shape.
+#[derive(Clone, Debug)]
+pub struct Wall {
+    settings: Settings,
+    shape: Shape,
+}
+
+impl Wall {
+    /// The wall of checked settings, which are checked again.
+    pub fn new(settings: Settings) -> Result<Wall, Refused> {
+        settings.check()?;
+        let shape = Shape::new(settings.columns());
+        Ok(Wall { settings, shape })
+    }
+
+    /// The wall's settings.
+    pub fn settings(&self) -> &Settings {
+        &self.settings
+    }
+
+    /// The wall's shape.
+    pub fn shape(&self) -> &Shape {
+        &self.shape
+    }
+
+    /// The row operation: writes the row's times, or answers the lowest number that applies over the
+    /// whole row and leaves `written` as it was.
+    pub fn row(&self, lent: &Lent, written: &mut [u64]) -> Result<Ends, Refused> {
+        self.check(lent, written.len())?;
+        let times: Vec<u64> = (0..self.shape.columns())
+            .map(|column| self.time(lent, column))
+            .collect();
+        written.copy_from_slice(&times);
+        Ok(Ends {
+            earliest: *times.iter().min().expect("a row has tiles"),
+            latest: *times.iter().max().expect("a row has tiles"),
+        })
+    }
+
+    /// The row's refusals, each judged over the whole row before the next.
+    fn check(&self, lent: &Lent, written_length: usize) -> Result<(), Refused> {
+        let w = self.shape.columns();
+        self.settings.check()?;
+        refuse_if(!self.lengths_are_right(lent, written_length), 21)?;
+
+        let faulty = |column: usize| is_marked(lent.marks, column);
+        let stray_mark = (w..8 * lent.marks.len()).any(faulty);
+        refuse_if(stray_mark, 22)?;
+
+        let too_late = (0..w).any(|c| !faulty(c) && lent.before[c] > LATEST_ARRIVAL);
+        refuse_if(too_late, 23)?;
+
+        let two_faulty = (0..w).any(|c| self.faulty_predecessors(lent, c) >= 2);
+        refuse_if(two_faulty, 24)?;
+
+        let over_limit = (lent.drifts.iter()).any(|&p| Tick::from(p) > self.settings.r());
+        refuse_if(over_limit, 25)?;
+
+        let mut links = (0..w).flat_map(|c| self.shape.links_of(c));
+        let not_admitted = links.any(|(sender, at)| !self.link_is_admitted(lent, sender, at));
+        refuse_if(not_admitted, 26)
+    }
+
+    fn lengths_are_right(&self, lent: &Lent, written_length: usize) -> bool {
+        let w = self.shape.columns();
+        lent.before.len() == w
+            && lent.marks.len() == self.shape.mark_bytes()
+            && lent.drifts.len() == w
+            && lent.links.len() == self.shape.links()
+            && written_length == w
+    }
+
+    /// A tile's predecessors' marks, gathered into a byte, and the ones among those bits counted.
+    fn faulty_predecessors(&self, lent: &Lent, column: usize) -> u32 {
+        let predecessors = self.shape.predecessors(column).iter();
+        let gathered = predecessors.fold(0u8, |byte, &sender| {
+            byte << 1 | u8::from(is_marked(lent.marks, sender))
+        });
+        gathered.count_ones()
+    }
+
+    /// Number 26 for the link value at place `at`, judged by the sender's mark.
+    fn link_is_admitted(&self, lent: &Lent, sender: usize, at: usize) -> bool {
+        let value = lent.links[at];
+        if is_marked(lent.marks, sender) {
+            value <= LATEST_ARRIVAL || value == SILENT
+        } else {
+            let (d, u) = (self.settings.d(), self.settings.u());
+            (d - u..=d).contains(&Tick::from(value))
+        }
+    }
+
+    /// When the tile in `column` pulses: the smallest tick whose reading is at least P + A.
+    fn time(&self, lent: &Lent, column: usize) -> u64 {
+        let stamps = self.stamps(lent, column);
+        let answer = tile(&self.settings, &stamps).expect("an accepted row admits each tile");
+        let goal = answer.p + self.settings.a();
+        let t = first_tick(goal, lent.drifts[column].into());
+        u64::try_from(t).expect("a time fits 64 bits")
+    }
+
+    /// The stamps of the tile in `column`, for a lent row that is accepted.
+    pub fn stamps(&self, lent: &Lent, column: usize) -> Stamps {
+        let mut stamps = Stamps {
+            own: None,
+            neighbours: [None; 3],
+            count: 0,
+        };
+        for (sender, at) in self.shape.links_of(column) {
+            let arrival = arrival(lent, sender, lent.links[at]);
+            let stamp = arrival.map(|t| reading(t, lent.drifts[column].into()));
+            if sender == column {
+                stamps.own = stamp;
+            } else {
+                stamps.neighbours[stamps.count] = stamp;
+                stamps.count += 1;
+            }
+        }
+        stamps
+    }
+}
+
+/// The true tick at which the pulse on a link arrives, `None` where the link is silent.
+fn arrival(lent: &Lent, sender: usize, value: u64) -> Option<Tick> {
+    if !is_marked(lent.marks, sender) {
+        Some(Tick::from(lent.before[sender]) + Tick::from(value))
+    } else if value == SILENT {
+        None
+    } else {
+        Some(value.into())
+    }
+}
+
+#[cfg(test)]
+mod tests {
+    use super::*;
+    use crate::settings::tests::PRINTED;
+    use crate::settings::Numbers;
+
+    const W: usize = 11;
+
+    /// A row of eleven columns, all at 1000, drifts 0, links 100, nobody marked.
+    struct Case {
+        wall: Wall,
+        before: Vec<u64>,
+        marks: Vec<u8>,
+        drifts: Vec<u16>,
+        links: Vec<u64>,
+    }
+
+    impl Case {
+        fn new() -> Case {
+            let numbers = Numbers {
+                columns: W as u32,
+                drift_limit: 10_000,
+                unit: 16,
+                ..PRINTED
+            };
+            let wall = Wall::new(Settings::new(numbers).unwrap()).unwrap();
+            Case {
+                before: vec![1000; W],
+                marks: vec![0; 2],
+                drifts: vec![0; W],
+                links: vec![100; wall.shape().links()],
+                wall,
+            }
+        }
+
+        fn mark(&mut self, column: usize) {
+            self.marks[column / 8] |= 1 << (column % 8);
+        }
+
+        /// Sets the link value from `sender` to `tile`.
+        fn link(&mut self, tile: usize, sender: usize, value: u64) {
+            let mut links = self.wall.shape().links_of(tile);
+            let (_, at) = links.find(|&(s, _)| s == sender).unwrap();
+            drop(links);
+            self.links[at] = value;
+        }
+
+        fn lent(&self) -> Lent<'_> {
+            Lent {
+                before: &self.before,
+                marks: &self.marks,
+                drifts: &self.drifts,
+                links: &self.links,
+            }
+        }
+
+        /// The written row, or the number; a refusal must leave the lent row as it was.
+        fn run(&self) -> Result<Vec<u64>, u8> {
+            let mut written = vec![77; W];
+            match self.wall.row(&self.lent(), &mut written) {
+                Ok(ends) => {
+                    assert_eq!(Some(&ends.earliest), written.iter().min());
+                    assert_eq!(Some(&ends.latest), written.iter().max());
+                    Ok(written)
+                }
+                Err(Refused(number)) => {
+                    assert_eq!(written, [77; W]);
+                    Err(number)
+                }
+            }
+        }
+    }
+
+    #[test]
+    fn a_quiet_row() {
+        assert_eq!(Case::new().run(), Ok(vec![1500; W]));
+    }
+
+    #[test]
+    fn a_drift_scales_stamps_and_hold() {
+        let mut case = Case::new();
+        case.drifts[5] = 10_000;
+        // All arrivals at 1100 read 1111; 1511 is first met at 1497.
+        assert_eq!(case.run().unwrap()[5], 1497);
+        assert_eq!(case.run().unwrap()[4], 1500);
+    }
+
+    #[test]
+    fn lengths() {
+        for lent in 0..4 {
+            for longer in [false, true] {
+                let mut case = Case::new();
+                case.before[0] = u64::MAX; // 23, after 21
+                fn resize<T: Clone>(row: &mut Vec<T>, fill: T, longer: bool) {
+                    let length = if longer { row.len() + 1 } else { row.len() - 1 };
+                    row.resize(length, fill);
+                }
+                match lent {
+                    0 => resize(&mut case.before, 0, longer),
+                    1 => resize(&mut case.marks, 0xff, longer),
+                    2 => resize(&mut case.drifts, 0, longer),
+                    _ => resize(&mut case.links, 0, longer),
+                }
+                assert_eq!(case.run(), Err(21));
+            }
+        }
+        let case = Case::new();
+        for length in [0, W - 1, W + 1] {
+            let mut written = vec![5; length];
+            assert_eq!(case.wall.row(&case.lent(), &mut written), Err(Refused(21)));
+            assert_eq!(written, vec![5; length]);
+        }
+    }
+
+    #[test]
+    fn a_mark_past_the_last_column() {
+        for column in W..16 {
+            let mut case = Case::new();
+            case.mark(column);
+            assert_eq!(case.run(), Err(22));
+        }
+        let mut case = Case::new();
+        case.mark(W - 1);
+        assert!(case.run().is_ok());
+    }
+
+    #[test]
+    fn a_correct_time_over_the_limit_and_a_faulty_time_unread() {
+        let mut case = Case::new();
+        case.before[4] = LATEST_ARRIVAL;
+        assert!(case.run().is_ok());
+        case.before[4] = LATEST_ARRIVAL + 1;
+        assert_eq!(case.run(), Err(23));
+        case.mark(4);
+        case.link(4, 4, 1100);
+        case.link(3, 4, 1100);
+        case.link(5, 4, 1100);
+        for unread in [0, LATEST_ARRIVAL + 1, u64::MAX] {
+            case.before[4] = unread;
+            assert_eq!(case.run(), Ok(vec![1500; W]));
+        }
+    }
+
+    #[test]
+    fn two_faulty_predecessors() {
+        for a in 0..W {
+            for b in a + 1..W {
+                let mut case = Case::new();
+                case.mark(a);
+                case.mark(b);
+                let near = b - a <= 2 || (a, b) == (0, 3) || (a, b) == (W - 4, W - 1);
+                assert_eq!(case.run().is_err(), near, "{a} {b}");
+                if near {
+                    assert_eq!(case.run(), Err(24));
+                }
+            }
+        }
+    }
+
+    #[test]
+    fn drifts_and_links_over_the_whole_row() {
+        let mut case = Case::new();
+        case.link(0, 0, 101);
+        assert_eq!(case.run(), Err(26));
+        case.drifts[W - 1] = 10_001;
+        assert_eq!(case.run(), Err(25), "before the 26 in column 0");
+        case.mark(5);
+        case.mark(6);
+        assert_eq!(case.run(), Err(24));
+        case.before[10] = LATEST_ARRIVAL + 1;
+        assert_eq!(case.run(), Err(23));
+        case.mark(15);
+        assert_eq!(case.run(), Err(22));
+        case.links.pop();
+        assert_eq!(case.run(), Err(21));
+    }
+
+    #[test]
+    fn a_delay_at_and_past_its_limits() {
+        let places = Case::new().links.len();
+        for at in 0..places {
+            for (value, taken) in [
+                (89, false),
+                (90, true),
+                (100, true),
+                (101, false),
+                (0, false),
+                (SILENT, false),
+            ] {
+                let mut case = Case::new();
+                case.links[at] = value;
+                let number = case.run().err();
+                assert_eq!(number, (!taken).then_some(26));
+            }
+        }
+    }
+
+    #[test]
+    fn a_faulty_arrival_at_and_past_its_limit() {
+        for column in [0, 1, 2, 5, W - 3, W - 2, W - 1] {
+            for (value, taken) in [
+                (0, true),
+                (LATEST_ARRIVAL, true),
+                (LATEST_ARRIVAL + 1, false),
+                (SILENT - 1, false),
+                (SILENT, true),
+            ] {
+                for tile in 0..W {
+                    let mut case = Case::new();
+                    if !case.wall.shape().predecessors(tile).contains(&column) {
+                        continue;
+                    }
+                    case.mark(column);
+                    case.link(tile, column, value);
+                    let number = case.run().err();
+                    assert_eq!(number, (!taken).then_some(26), "{column} to {tile}");
+                }
+            }
+        }
+    }
+
+    #[test]
+    fn a_faulty_arrival_is_a_true_tick_stamped_by_the_receiver() {
+        let mut case = Case::new();
+        case.mark(5);
+        case.drifts[4] = 10_000;
+        case.link(4, 5, 2_000);
+        let stamps = case.wall.stamps(&case.lent(), 4);
+        assert_eq!(stamps.own, Some(1111));
+        assert_eq!(stamps.neighbours, [Some(1111), Some(2020), None]);
+        assert_eq!(stamps.count, 2);
+    }
+
+    #[test]
+    fn silence_from_a_faulty_sender() {
+        let mut case = Case::new();
+        case.mark(5);
+        case.before[4] = 1010;
+        for tile in 4..=6 {
+            case.link(tile, 5, SILENT);
+        }
+        let row = case.run().unwrap();
+        // Own silent: the latest neighbour's stamp 1110, 3h = 48 and the hold.
+        assert_eq!(row[5], 1110 + 48 + 400);
+        // A silent neighbour: own, being later than the other less 3h.
+        assert_eq!((row[4], row[6]), (1510, 1500));
+    }
+
+    #[test]
+    fn the_settings_are_checked_again() {
+        let bad = Settings::unchecked(Numbers { rows: 0, ..PRINTED });
+        assert_eq!(Wall::new(bad).map(|_| ()), Err(Refused(2)));
+        let mut case = Case::new();
+        case.wall.settings = bad;
+        case.links.pop();
+        assert_eq!(case.run(), Err(2));
+    }
+}
