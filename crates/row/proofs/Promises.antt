@@ -1,6 +1,6 @@
 -- The proofs of what specs/Reach.antt and its fellows state, from the laws in proofs/Laws/. Assumes nothing.
-use mathlib.Core.Path.{_≡_, refl}
-use mathlib.Core.Bool.{Bool, true, false, not, _&&_}
+use mathlib.Core.Path.{refl}
+use mathlib.Core.Bool.{not, and-false}
 use mathlib.Core.List.{List, map}
 use Prim.Native.Nat.{ℕ, zero, suc, _+_, _*_, _≤_, _<_}
 use lib.ListN.{length, getD}
@@ -10,7 +10,7 @@ use Rattle.rule.specs.declared.settings.Settings.{Settings}
 use Rattle.rule.proofs.Laws.Settings.{limits}
 use Rattle.rule.specs.Tile.{tile-pulse}
 use Rattle.row.specs.Columns.{neighbours}
-use Rattle.row.specs.Call.{Call, marked, stamp, pulse}
+use Rattle.row.specs.Call.{Call, latest-time, marked, stamp, pulse}
 use Rattle.row.specs.Tiles.{tile-stamps, Tiles-accepted}
 use Rattle.row.proofs.Laws.Columns.{own, predecessors-window, links-early, links-inner, links-late}
 use Rattle.row.proofs.Laws.Stamps.{stamp-by, few-silent, neighbours-by, two-neighbours, at-most-three}
@@ -24,7 +24,7 @@ use Rattle.row.proofs.Laws.Program.{planned-number, written-accepted, w
 use Rattle.row.specs.Growth.{Pulse-grows, Row-small, Never-late}
 use Rattle.row.specs.Shift.{Shift-bounded}
 use Rattle.row.proofs.Laws.Shift.{shifted}
-use Rattle.row.proofs.Laws.AnyBelow.{none-till}
+use Rattle.rule.proofs.Laws.AnyBelow.{none-till}
 use Rattle.row.proofs.Laws.Accepted.{accepted}
 use Rattle.row.proofs.Laws.Growth.{pulse-most}
 use Rattle.row.proofs.Laws.Run.{Run, run-of, written-at}
@@ -91,7 +91,7 @@ unfolding Row-small
 row-small s ts x c e i =
     let r = accepted s ts x e in
     let k = limits s (r .settings) in
-    omega (arith, pulse-most r 1099511627775 c (r .time) i, k .delay, k .hold, k .unit)
+    omega (arith, pulse-most r latest-time c (r .time) i, k .delay, k .hold, k .unit)
 
 -- row l is at most l times 2,187,500 ticks after row 0
 times-small : (s : Settings) (ts : List ℕ) (xs : List Call) (rs : List (List ℕ)) → Run s ts xs rs →
@@ -114,13 +114,9 @@ unfolding Never-late late-time
 never-late s ts xs l ms ok start i j =
     let run = run-of s xs ts in
     none-till (late-time (row-at ts (rows s xs ts) l) ms) (s .width)
-    (λ c o. rw (le-ltb 1099511627775 (getD (row-at ts (rows s xs ts) l) c 0)
+    (λ c o. rw (le-ltb latest-time (getD (row-at ts (rows s xs ts) l) c 0)
     (omega (arith, times-small s ts (taken s xs ts) (rows s xs ts) run start l c (omega (arith, run .as-many)) o)))
     (and-false (not (marked ms c))))
-  where
-    and-false : (a : Bool) → (a && false) ≡ false
-    and-false true = refl
-    and-false false = refl
 
 -- a wave that starts later
 pub shift-bounded : Shift-bounded

@@ -6,7 +6,7 @@ use Prim.Native.Nat.{ℕ, zero, suc, _<_}
 use lib.Dec.{eqb, lit<}
 use native.Mathlib.Omega.{arith}
 use borrow.Author.Tests.{eq-eqb, eqb-true, not-false}
-use Rattle.rule.specs.Refusal.{first, outside}
+use Rattle.rule.specs.Refusal.{first, outside, any-below}
 use Rattle.rule.specs.Rounding.{up}
 use Rattle.rule.specs.Settings.{settings, settings-refusal, settings-tests, drift-cost, step, step-of}
 use Rattle.rule.specs.Clock.{reads, first-tick}
@@ -16,10 +16,10 @@ use Rattle.rule.specs.Forward.{larger-at, least-to, D, heard-correction, P}
 use Rattle.rule.specs.Tile.{tile-P, tile-pulse}
 use Rattle.row.specs.Columns.{are-neighbours, columns-from, neighbours, is-predecessor, predecessors, links-before, place-in, link-place}
 use Rattle.row.specs.Call.{Call, call, marked, link, arrives, arrival, read-at, stamp, pulse, table-from, row-of}
-use Rattle.row.specs.Refusal.{any-below, any-of, mark-bytes, lengths-are, lengths-right, stray-mark, late-time, faulty-among, crowded, fast, bad-value, bad-link, bad-links, row-tests, row-refusal}
+use Rattle.row.specs.Refusal.{any-of, mark-bytes, lengths-are, lengths-right, stray-mark, late-time, faulty-among, crowded, fast, bad-value, bad-link, bad-links, row-tests, row-refusal}
 use Rattle.row.specs.Run.{taken, rows, call-at, row-at}
 use Rattle.row.specs.Reach.{Alike}
-use Rattle.row.proofs.Laws.AnyBelow.{none-below}
+use Rattle.rule.proofs.Laws.AnyBelow.{none-below}
 use Rattle.row.specs.Witness.{wall, row-0, sound, broken, stray, Witnessed}
 
 sound-accepted : row-refusal wall row-0 sound ≡ 0

@@ -21,6 +21,10 @@ pub record Call : Type 0 where
 unfoldable pub call : (marks drifts links : List ℕ) → (room : ℕ) → Call
 call ms ds ls room = record { marks = ms; drifts = ds; links = ls; room = room }
 
+-- 2^40 - 1: the latest time of a correct tile, and the latest faulty arrival
+abbrev pub latest-time : ℕ
+latest-time = 1099511627775
+
 -- "fault marks (one bit a column, column 0 lowest in the first byte)"
 unfoldable pub marked : (marks : List ℕ) → (c : ℕ) → Bool
 marked ms c = eqb (getD ms (c / 8) 0 / 2 ^ (c % 8) % 2) 1

@@ -4,10 +4,11 @@ use mathlib.Core.Bool.{false}
 use mathlib.Core.List.{List}
 use Prim.Native.Nat.{ℕ, _+_, _*_, _≤_, _<_}
 use lib.ListN.{length, getD}
+use Rattle.rule.specs.Refusal.{any-below}
 use Rattle.rule.specs.Settings.{settings-refusal}
 use Rattle.rule.specs.declared.settings.Settings.{Settings}
 use Rattle.row.specs.Call.{Call, marked, pulse}
-use Rattle.row.specs.Refusal.{any-below, late-time, row-refusal}
+use Rattle.row.specs.Refusal.{late-time, row-refusal}
 use Rattle.row.specs.Run.{rows, row-at}
 
 -- a pulse is at most the latest correct time of the row before, and d + A + 3h

@@ -1,6 +1,8 @@
 pub mod Columns
 pub mod Call
 pub mod Window
+pub mod Plain
+pub mod Progress
 pub mod Refusal
 pub mod Run
 pub mod Reach

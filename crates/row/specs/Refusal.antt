@@ -2,23 +2,19 @@
 use mathlib.Core.Path.{_≡_}
 use mathlib.Core.Bool.{Bool, false, cond, not, _&&_, _||_}
 use mathlib.Core.List.{List, [], _∷_}
-use Prim.Native.Nat.{ℕ, zero, suc, _+_, _-_, _*_, _/_, min, max}
+use Prim.Native.Nat.{ℕ, _+_, _-_, _*_, _/_, min, max}
 use lib.Dec.{ltb, leb, eqb}
 use lib.ListN.{length, getD}
-use Rattle.rule.specs.Refusal.{Test, _when_, first, outside}
+use Rattle.rule.specs.Refusal.{Test, _when_, first, outside, any-below}
 use Rattle.rule.specs.Settings.{settings-refusal}
 use Rattle.rule.specs.Stamp.{silence}
 use Rattle.rule.specs.declared.settings.Settings.{Settings}
 use Rattle.row.specs.Columns.{predecessors}
-use Rattle.row.specs.Call.{Call, marked, link, row-of}
+use Rattle.row.specs.Call.{Call, latest-time, marked, link, row-of}
 use Rattle.row.specs.declared.Planned.{Planned}
 use Rattle.row.specs.declared.Planned.the-variants.{Row, Refused}
 
--- f holds of some number below n, of some number in a list
-unfoldable pub any-below : (n : ℕ) → (ℕ → Bool) → Bool
-any-below zero f = false
-any-below (suc n) f = any-below n f || f n
-
+-- f holds of some number in a list
 unfoldable pub any-of : List ℕ → (ℕ → Bool) → Bool
 any-of [] f = false
 any-of (k ∷ ks) f = f k || any-of ks f
@@ -41,7 +37,7 @@ stray-mark w ms k = leb w k && marked ms k
 
 -- 23: "a correct tile's time over 2^40 - 1"
 unfoldable pub late-time : (before marks : List ℕ) → (c : ℕ) → Bool
-late-time ts ms c = not (marked ms c) && ltb 1099511627775 (getD ts c 0)
+late-time ts ms c = not (marked ms c) && ltb latest-time (getD ts c 0)
 
 -- 24: "a tile with two faulty predecessors"
 unfoldable pub faulty-among : (marks : List ℕ) → (columns : List ℕ) → ℕ
@@ -57,7 +53,7 @@ fast r ds c = ltb r (getD ds c 0)
 
 -- 26: "a delay outside d - u to d, or a faulty arrival over 2^40 - 1 that isn't silent"
 unfoldable pub bad-value : Settings → (faulty : Bool) → (value : ℕ) → Bool
-bad-value s f v = cond f (not (eqb v silence) && ltb 1099511627775 v) (outside (s .delay - s .uncertainty) (s .delay) v)
+bad-value s f v = cond f (not (eqb v silence) && ltb latest-time v) (outside (s .delay - s .uncertainty) (s .delay) v)
 
 unfoldable pub bad-link : Settings → (marks links : List ℕ) → (tile sender : ℕ) → Bool
 bad-link s ms ls c k = bad-value s (marked ms k) (link (s .width) ls c k)

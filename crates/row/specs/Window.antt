@@ -8,7 +8,7 @@ use lib.Dec.{leb, eqb}
 use lib.ListN.{length, getD}
 use Rattle.rule.specs.Stamp.{silence}
 use Rattle.row.specs.Columns.{predecessors, links-before}
-use Rattle.row.specs.Call.{marked}
+use Rattle.row.specs.Call.{latest-time, marked}
 
 unfoldable pub first-sender : (w c : ℕ) → ℕ
 first-sender w c = cond (leb c 2) 0 (cond (leb (w - 2) c) (w - 3) (c - 1))
@@ -27,8 +27,8 @@ pub record Stampable (drift : ℕ) (before marks links : List ℕ) (sender place
   pub in-row : sender < length before
   pub in-marks : sender / 8 < length marks
   pub in-links : place < length links
-  pub delay : marked marks sender ≡ false → (getD before sender 0 ≤ 1099511627775) × (getD links place 0 ≤ 1000000)
-  pub faulty : marked marks sender ≡ true → (getD links place 0 ≡ silence → ⊥) → getD links place 0 ≤ 1099511627775
+  pub delay : marked marks sender ≡ false → (getD before sender 0 ≤ latest-time) × (getD links place 0 ≤ 1000000)
+  pub faulty : marked marks sender ≡ true → (getD links place 0 ≡ silence → ⊥) → getD links place 0 ≤ latest-time
 
 -- the window is right, and the links of a row number 3W + 2, with this closed form of where a tile's start
 unfoldable pub Window-right : Type 0

@@ -1,11 +1,13 @@
 // One row of pulses, worked out from the row before it.
-mod columns;
+pub mod columns;
+mod links;
+mod progress;
 mod pulse;
 mod refusal;
 
+use progress::Progress;
+use progress::further;
 use rule::Settings;
-use rule::rounding::larger;
-use rule::rounding::smaller;
 use rule::settings;
 ghost use mathlib.Core.Path.{_≡_};
 ghost use lib.ListN.{length};
@@ -37,15 +39,12 @@ pub fn plan(
         return Planned::Refused(number);
     }
     let step = settings::step(settings.unit, settings.drift);
-    let mut earliest: u64 = 18_446_744_073_709_551_615;
-    let mut latest: u64 = 0;
-    let mut c = 0;
-    while c < times.len() {
-        let time = pulse::pulse(settings, step, before, marks, drifts, links, c);
-        times[c] = time;
-        earliest = smaller(earliest, time);
-        latest = larger(latest, time);
-        c += 1;
+    let mut done = Progress::none();
+    while done.next < times.len() {
+        done = further(settings, step, before, marks, drifts, links, times, done);
     }
-    Planned::Row { earliest, latest }
+    Planned::Row {
+        earliest: done.earliest,
+        latest: done.latest,
+    }
 }

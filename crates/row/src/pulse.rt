@@ -9,7 +9,7 @@ use rule::rounding::larger;
 use rule::rounding::smaller;
 ghost use mathlib.Core.Path.{_≡_};
 ghost use Prim.Native.Nat.{_+_, _≤_, _<_, min, max};
-ghost use lib.ListN.{length, getD};
+ghost use lib.ListN.{getD};
 ghost use Rattle.rule.specs.Clock.{first-tick};
 ghost use Rattle.rule.specs.Settings.{step-of};
 ghost use Rattle.rule.specs.Stamp.{code-of, stamp-of};
@@ -17,6 +17,7 @@ ghost use Rattle.rule.specs.Closed.{closed-P, Forwardable};
 ghost use Rattle.row.specs.Call.{call, marked, arrives, read-at, pulse};
 ghost use Rattle.row.specs.Refusal.{row-refusal};
 ghost use Rattle.row.specs.Window.{Stampable};
+ghost use Rattle.row.specs.Plain.{Receivable, Correct, received, correct-pulse};
 
 // By where a tile's neighbours stand: two beside it, or two or three at the ends of the row.
 pub fn pulse(
@@ -78,7 +79,34 @@ fn stamp(drift: u64, before: &[u64], marks: &[u8], links: &[u64], sender: usize,
         }
         return clock::reading(drift, value);
     }
-    clock::reading(drift, before[sender] + value)
+    received(drift, before, links, sender, at)
+}
+
+// The stamp of a correct sender's pulse.
+fn received(drift: u64, before: &[u64], links: &[u64], sender: usize, at: usize) -> u64
+    requires { ⌜ Receivable drift (now before) (now links) sender at ⌝ }
+    ensures { λ r. ⌜ r ≡ received drift (now (before .entry)) (now (links .entry)) sender at ⌝ }
+{
+    clock::reading(drift, before[sender] + links[at])
+}
+
+// The pulse of a tile away from the ends, of an accepted row, whose predecessors are correct.
+pub fn correct(
+    settings: Settings,
+    step: u64,
+    drift: u64,
+    before: &[u64],
+    links: &[u64],
+    c: usize,
+) -> u64
+    requires { ⌜ Correct settings step drift (now before) (now links) c ⌝ }
+    ensures { λ r. ⌜ r ≡ correct-pulse settings step drift (now (before .entry)) (now (links .entry)) c ⌝ }
+{
+    let at = 3 * c + 1;
+    let a = received(drift, before, links, c - 1, at);
+    let own = received(drift, before, links, c, at + 1);
+    let b = received(drift, before, links, c + 1, at + 2);
+    of_two(settings, step, drift, own, a, b)
 }
 
 // The pulse of a tile with two neighbours.

@@ -1,24 +1,26 @@
 // When a row call is turned away. Each check goes over the whole row, so that the lowest number that
 // applies anywhere is the one given.
-use crate::columns::first_link;
 use crate::columns::first_sender;
 use crate::columns::four_senders;
 use crate::columns::marked;
+use crate::columns::quiet;
+use crate::links::any_bad_links;
 use rule::Settings;
-use rule::forwarding::SILENT;
 ghost use mathlib.Core.Path.{_≡_};
-ghost use mathlib.Core.Bool.{cond};
+ghost use mathlib.Core.Bool.{true, cond};
 ghost use Prim.Native.Nat.{_+_, _*_, _/_, _≤_, _<_};
 ghost use lib.Count.{ones};
 ghost use lib.ListN.{length};
-ghost use Rattle.rule.specs.Settings.{settings-refusal};
+ghost use Rattle.rule.specs.Refusal.{any-below};
 ghost use Rattle.row.specs.Columns.{predecessors};
-ghost use Rattle.row.specs.Call.{call, marked};
-ghost use Rattle.row.specs.Refusal.{any-below, mark-bytes, lengths-are, stray-mark, late-time, faulty-among, crowded, fast, bad-value, bad-links, row-refusal};
+ghost use Rattle.row.specs.Call.{call, latest-time, marked};
+ghost use Rattle.row.specs.Plain.{All-by};
+ghost use Rattle.row.specs.Refusal.{mark-bytes, lengths-are, stray-mark, late-time, faulty-among, crowded, fast, row-refusal};
 
 // The latest time of a correct tile, and the latest faulty arrival.
 pub const LATEST: u64 = 1_099_511_627_775;
 
+// The number under which a row call is turned away, or 0.
 pub fn refusal(
     settings: Settings,
     before: &[u64],
@@ -56,12 +58,13 @@ pub fn refusal(
     if fast(width, settings.drift, drifts) {
         return 25;
     }
-    if bad_link(settings, width, marks, links) {
+    if any_bad_links(settings, width, marks, links) {
         return 26;
     }
     0
 }
 
+// Whether each length is right; 21 where not.
 fn lengths(
     width: usize,
     before: usize,
@@ -88,6 +91,7 @@ fn lengths(
     room == width
 }
 
+// 22: a mark past the last column.
 fn stray_mark(width: usize, marks: &[u8]) -> bool
     requires { ⌜ (width ≤ 256) × (length (now marks) ≡ mark-bytes width) ⌝ }
     ensures { λ r. ⌜ r ≡ any-below (8 * mark-bytes width) (stray-mark width (now (marks .entry))) ⌝ }
@@ -102,14 +106,18 @@ fn stray_mark(width: usize, marks: &[u8]) -> bool
     false
 }
 
+// 23: a correct tile's time that is too late.
 fn late_time(width: usize, before: &[u64], marks: &[u8]) -> bool
     requires { ⌜ (length (now before) ≡ width) × (length (now marks) ≡ mark-bytes width) ⌝ }
     ensures { λ r. ⌜ r ≡ any-below width (late-time (now (before .entry)) (now (marks .entry))) ⌝ }
 {
+    if all_on_time(before) {
+        return false;
+    }
     let mut c = 0;
     while c < width {
-        if !marked(marks, c) {
-            if LATEST < before[c] {
+        if LATEST < before[c] {
+            if !marked(marks, c) {
                 return true;
             }
         }
@@ -118,16 +126,34 @@ fn late_time(width: usize, before: &[u64], marks: &[u8]) -> bool
     false
 }
 
+// Whether no time is too late, a faulty tile's neither: none has a bit that the latest lacks.
+fn all_on_time(before: &[u64]) -> bool
+    ensures { λ r. ⌜ (r ≡ true → All-by latest-time (now (before .entry))) ⌝ }
+{
+    let mut bits: u64 = 0;
+    let mut c = 0;
+    while c < before.len() {
+        bits = bits | before[c];
+        c += 1;
+    }
+    bits <= LATEST
+}
+
+// 24: a tile with two faulty predecessors.
 fn crowded(width: usize, marks: &[u8]) -> bool
     requires { ⌜ (6 ≤ width) × (width ≤ 256) × (length (now marks) ≡ mark-bytes width) ⌝ }
     ensures { λ r. ⌜ r ≡ any-below width (crowded width (now (marks .entry))) ⌝ }
 {
     let mut c = 0;
     while c < width {
-        if 1 < u8::count_ones(gathered(width, marks, c)) {
-            return true;
+        if quiet(width, marks, c) {
+            c += 8;
+        } else {
+            if 1 < u8::count_ones(gathered(width, marks, c)) {
+                return true;
+            }
+            c += 1;
         }
-        c += 1;
     }
     false
 }
@@ -145,77 +171,30 @@ fn gathered(width: usize, marks: &[u8], c: usize) -> u8
     three
 }
 
+// A column's mark as a digit.
 fn bit(marks: &[u8], c: usize) -> u8
     requires { ⌜ c / 8 < length (now marks) ⌝ }
     ensures { λ r. ⌜ r ≡ cond (marked (now (marks .entry)) c) 1 0 ⌝ }
 {
-    (marks[c / 8] >> (c % 8)) % 2
+    if marked(marks, c) {
+        return 1;
+    }
+    0
 }
 
+// 25: a drift over the limit.
 fn fast(width: usize, limit: u64, drifts: &[u32]) -> bool
     requires { ⌜ length (now drifts) ≡ width ⌝ }
     ensures { λ r. ⌜ r ≡ any-below width (fast limit (now (drifts .entry))) ⌝ }
 {
+    let mut most: u32 = 0;
     let mut c = 0;
     while c < width {
-        if limit < drifts[c] as u64 {
-            return true;
+        let drift = drifts[c];
+        if most < drift {
+            most = drift;
         }
         c += 1;
     }
-    false
-}
-
-fn bad_link(settings: Settings, width: usize, marks: &[u8], links: &[u64]) -> bool
-    requires { ⌜ (settings-refusal settings ≡ 0) × (settings .width ≡ width) × (length (now marks) ≡ mark-bytes width) × (length (now links) ≡ 3 * width + 2) ⌝ }
-    ensures { λ r. ⌜ r ≡ any-below width (bad-links settings (now (marks .entry)) (now (links .entry))) ⌝ }
-{
-    let mut c = 0;
-    while c < width {
-        if bad_links(settings, width, marks, links, c) {
-            return true;
-        }
-        c += 1;
-    }
-    false
-}
-
-// Whether a link of the tile is.
-fn bad_links(settings: Settings, width: usize, marks: &[u8], links: &[u64], c: usize) -> bool
-    requires { ⌜ (settings-refusal settings ≡ 0) × (settings .width ≡ width) × (length (now marks) ≡ mark-bytes width) × (length (now links) ≡ 3 * width + 2) ⌝ }
-    requires { ⌜ c < width ⌝ }
-    ensures { λ r. ⌜ r ≡ bad-links settings (now (marks .entry)) (now (links .entry)) c ⌝ }
-{
-    let k = first_sender(width, c);
-    let at = first_link(width, c);
-    if bad_value(settings, marked(marks, k), links[at]) {
-        return true;
-    }
-    if bad_value(settings, marked(marks, k + 1), links[at + 1]) {
-        return true;
-    }
-    if bad_value(settings, marked(marks, k + 2), links[at + 2]) {
-        return true;
-    }
-    if four_senders(width, c) {
-        return bad_value(settings, marked(marks, k + 3), links[at + 3]);
-    }
-    false
-}
-
-// A delay outside its range, or a faulty arrival that is too late.
-fn bad_value(settings: Settings, faulty: bool, value: u64) -> bool
-    requires { ⌜ settings .uncertainty ≤ settings .delay ⌝ }
-    ensures { λ r. ⌜ r ≡ bad-value settings faulty value ⌝ }
-{
-    if faulty {
-        if value == SILENT {
-            return false;
-        }
-        return LATEST < value;
-    }
-    if value < settings.delay - settings.uncertainty {
-        return true;
-    }
-    settings.delay < value
+    limit < most as u64
 }

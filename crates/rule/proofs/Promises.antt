@@ -13,7 +13,7 @@ use Rattle.rule.specs.Signed.{natural}
 use Rattle.rule.specs.Stamp.{Stamp, heard, silent, _≼_, in-order, _∈_, here, there, earliest, latest, after, Within, within, none, more, All-but-one, this, later-on}
 use Rattle.rule.specs.Forward.{P, correction}
 use Rattle.rule.specs.Closed.{closed-P}
-use Rattle.rule.specs.Tile.{stamp-at, own-stamp, neighbour-stamps, tile-P, tile-refusal, answered, number-of}
+use Rattle.rule.specs.Tile.{latest-stamp, stamp-at, own-stamp, neighbour-stamps, tile-P, tile-refusal, answered, number-of}
 use Rattle.rule.specs.Promises.{Cost-rounded-up, Step-rounded-up, Settings-answered, Tick-least, D-least, Rule-closed, Tile, P-exact, P-monotone, P-shifts, own-free, neighbour-free, Envelope, Between-two, Forward-between, Tile-answered, Past-count, P-range}
 use Rattle.rule.specs.declared.settings.Settings.{Settings}
 use Rattle.rule.specs.declared.tile.Stamps.{Stamps}
@@ -25,7 +25,7 @@ use Rattle.rule.proofs.Laws.Signed.{minus-fits}
 use Rattle.rule.proofs.Laws.Middle.{lift-turn}
 use Rattle.rule.proofs.Laws.Closed.{D-attained, D-below, rule-closed as rule-closed-of}
 use Rattle.rule.proofs.Laws.Stamp.{as-long, earliest-mono, latest-mono, earliest-∈, latest-∈, earliest-≼-latest, earliest-within, latest-within, earliest-after, latest-after, By, heard-by, earliest-by, latest-by}
-use Rattle.rule.proofs.Laws.Tile.{latest-stamp, Accepted, accepted, stamped, answer-number, answer-P, answer-correction, forwarded-accepted, forwarded-refused, forwarded-alike}
+use Rattle.rule.proofs.Laws.Tile.{Accepted, accepted, stamped, answer-number, answer-P, answer-correction, forwarded-accepted, forwarded-refused, forwarded-alike}
 use Rattle.rule.proofs.Laws.Forward.{enough, P-mono, P-after, P-most, by-neighbours, by-own-and-one}
 
 pub cost-rounded-up : Cost-rounded-up
@@ -142,7 +142,7 @@ p-range s x e =
     let a = accepted s x e in
     let t = stamped a in
     let k = limits s (a .settings) in
-    let small : tile-P s (stamp-at x 0) (neighbour-stamps x) ≤ 2199023255551 + 3 * s .unit =
+    let small : tile-P s (stamp-at x 0) (neighbour-stamps x) ≤ latest-stamp + 3 * s .unit =
     rw (closed (stamp-at x 0) (tile-of a))
     (P-most (k .unit .0) (step-of s) (t .heard-enough) (t .ordered) (t .own-by) (earliest-by (t .all-by)) (latest-by (t .all-by))) in
     (small, λ o q. minus-fits o (tile-P s (stamp-at x 0) (neighbour-stamps x)) (heard-small (subst (By latest-stamp) q (t .own-by))) (omega (arith, k .unit .1)))

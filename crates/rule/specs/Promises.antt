@@ -16,7 +16,7 @@ use Rattle.rule.specs.Signed.{natural}
 use Rattle.rule.specs.Stamp.{Stamp, heard, _≼_, _≼*_, _∈_, earliest, latest, after, Within, All, All-but-one, unheard-of, unheard-in}
 use Rattle.rule.specs.Forward.{larger-at, D, P, correction}
 use Rattle.rule.specs.Closed.{closed-P}
-use Rattle.rule.specs.Tile.{silent-at, reading-at, own-stamp, neighbour-stamps, tile-P, tile-refusal, forwarded, number-of, P-of, correction-of}
+use Rattle.rule.specs.Tile.{latest-stamp, silent-at, reading-at, own-stamp, neighbour-stamps, tile-P, tile-refusal, forwarded, number-of, P-of, correction-of}
 use Rattle.rule.specs.declared.settings.Settings.{Settings}
 use Rattle.rule.specs.declared.tile.Stamps.{Stamps}
 
@@ -118,4 +118,4 @@ unfoldable pub P-range : Type 0
 P-range =
     (s : Settings) (x : Stamps) → tile-refusal s x ≡ 0 →
     let p = tile-P s (own-stamp x) (neighbour-stamps x) in
-    (p ≤ 2199023255551 + 3 * s .unit) × ((o : ℕ) → own-stamp x ≡ heard o → SFits w64 (pos o -ℤ pos p))
+    (p ≤ latest-stamp + 3 * s .unit) × ((o : ℕ) → own-stamp x ≡ heard o → SFits w64 (pos o -ℤ pos p))

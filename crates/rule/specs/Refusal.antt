@@ -1,7 +1,7 @@
 -- Refusals: "the lowest number that applies is returned; a number is returned only under its condition". Assumes nothing.
-use mathlib.Core.Bool.{Bool, cond, _||_}
+use mathlib.Core.Bool.{Bool, false, cond, _||_}
 use mathlib.Core.List.{List, [], _∷_}
-use Prim.Native.Nat.{ℕ}
+use Prim.Native.Nat.{ℕ, zero, suc}
 use lib.Dec.{ltb}
 
 infix 70 _when_
@@ -17,3 +17,8 @@ first ((n when b) ∷ ts) = cond b n (first ts)
 -- v is below low or above high
 unfoldable pub outside : (low high v : ℕ) → Bool
 outside low high v = ltb v low || ltb high v
+
+-- f holds of some number below n
+unfoldable pub any-below : (n : ℕ) → (ℕ → Bool) → Bool
+any-below zero f = false
+any-below (suc n) f = any-below n f || f n

@@ -8,7 +8,7 @@ use lib.Dec.{ltb, eqb}
 use lib.IntN.{ℤ, pos}
 use lib.ListN.{getD, take}
 use lib.Signed.{ltZ}
-use Rattle.rule.specs.Refusal.{Test, first, _when_, outside}
+use Rattle.rule.specs.Refusal.{Test, first, _when_, outside, any-below}
 use Rattle.rule.specs.Settings.{step-of, settings-refusal}
 use Rattle.rule.specs.Clock.{first-tick}
 use Rattle.rule.specs.Signed.{natural}
@@ -43,16 +43,16 @@ own-stamp x = stamp-at x 0
 unfoldable pub neighbour-stamps : Stamps → List Stamp
 neighbour-stamps x = map (stamp-at x) (neighbour-places x)
 
+-- 2^41 - 1
+abbrev pub latest-stamp : ℕ
+latest-stamp = 2199023255551
+
 -- "a stamp over 2^41 - 1 that isn't silent"; one below zero is no reading and counts with them
 unfoldable pub late-from : (silent : Bool) (reading : ℤ) → Bool
-late-from s z = not s && (ltZ z (pos 0) || ltZ (pos 2199023255551) z)
+late-from s z = not s && (ltZ z (pos 0) || ltZ (pos latest-stamp) z)
 
 unfoldable pub late-at : Stamps → (place : ℕ) → Bool
 late-at x i = late-from (silent-at x i) (reading-at x i)
-
-unfoldable pub any-late : Stamps → (places : ℕ) → Bool
-any-late x zero = false
-any-late x (suc n) = any-late x n || late-at x n
 
 unfoldable pub count-silent : (silent : Bool) → ℕ
 count-silent s = cond s 1 0
@@ -65,7 +65,7 @@ silences x (suc n) = silences x n + count-silent (silent-at x n)
 -- The places that are read are own's and as many neighbours' as the count says.
 unfoldable pub stamp-tests : Stamps → List Test
 stamp-tests x =
-    12 when any-late x (suc (x .count))
+    12 when any-below (suc (x .count)) (late-at x)
     ∷ 13 when ltb 1 (silences x (suc (x .count)))
     ∷ []
 
@@ -85,7 +85,7 @@ tile-refusal s x = first (tile-tests s x)
 pub record Readable (x : Stamps) : Type 0 where
   pub count-least : 2 ≤ x .count
   pub count-most : x .count ≤ 3
-  pub on-time : any-late x (suc (x .count)) ≡ false
+  pub on-time : any-below (suc (x .count)) (late-at x) ≡ false
 
 -- P of a tile's own stamp and its neighbours', as a reading: it is never below zero (`P-exact`)
 unfoldable pub tile-P : Settings → (own : Stamp) → (neighbours : List Stamp) → ℕ

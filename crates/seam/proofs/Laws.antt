@@ -1,7 +1,7 @@
 -- The laws of half a whole number and of a gap: a cast and one product with one half are exact, and a gap is in range.
 -- Assumes nothing.
 use mathlib.Core.Path.{_≡_, refl, sym, ap, _∙_, subst}
-use mathlib.Core.Bool.{Bool, true, false, cond, _||_}
+use mathlib.Core.Bool.{Bool, true, false, or-true}
 use Prim.Native.Nat.{ℕ, suc, _+_, _-_, _*_, _^_, _≤_, _<_}
 use native.Mathlib.Nat.{mul-assoc, mul-one, mul-pos, mul-lt-mul-of-pos-right, lt-of-lt-of-le}
 use native.Mathlib.Omega.{arith}
@@ -112,11 +112,7 @@ module _ (l : ℕ) (lf : Bool) (r : ℕ) (rf : Bool) where
 
   pub refused-right : late r rf ≡ true → seam-of l lf r rf ≡ Refused 31
   unfolding seam-of
-  refused-right e = rw e (either (late l lf))
-    where
-      either : (b : Bool) → cond (b || true) (Refused 31) (joined lf rf (halves l r)) ≡ Refused 31
-      either true = refl
-      either false = refl
+  refused-right e = rw (e, or-true (late l lf))
 
   pub accepted : late l lf ≡ false → late r rf ≡ false → seam-of l lf r rf ≡ joined lf rf (halves l r)
   unfolding seam-of

@@ -7,14 +7,15 @@ use lib.Dec.{ltb}
 use lib.ListN.{length, getD}
 use native.Mathlib.Omega.{arith}
 use borrow.Author.Tests.{ltb-false, not-false, ne-eqb}
+use Rattle.rule.specs.Refusal.{any-below}
 use Rattle.rule.specs.Settings.{settings-refusal}
 use Rattle.rule.specs.Stamp.{silence}
 use Rattle.rule.specs.declared.settings.Settings.{Settings}
 use Rattle.rule.proofs.Laws.Refusal.{unhit, unhit-given, inside}
 use Rattle.row.specs.Columns.{is-predecessor, predecessors}
-use Rattle.row.specs.Call.{Call, marked, link}
-use Rattle.row.specs.Refusal.{any-below, mark-bytes, lengths-right, stray-mark, late-time, faulty-among, crowded, fast, bad-value, bad-link, bad-links, row-tests, row-refusal}
-use Rattle.row.proofs.Laws.AnyBelow.{none-below}
+use Rattle.row.specs.Call.{Call, latest-time, marked, link}
+use Rattle.row.specs.Refusal.{mark-bytes, lengths-right, stray-mark, late-time, faulty-among, crowded, fast, bad-value, bad-link, bad-links, row-tests, row-refusal}
+use Rattle.rule.proofs.Laws.AnyBelow.{none-below}
 use Rattle.row.proofs.Laws.Lengths.{Sized, sized}
 use Rattle.row.proofs.Laws.Lists.{none-of}
 
@@ -26,7 +27,7 @@ pub record Accepted (s : Settings) (ts : List ℕ) (x : Call) : Type 0 where
   pub settings : settings-refusal s ≡ 0
   pub lengths : Lengths (s .width) ts x
   -- a correct tile's time
-  pub time : (c : ℕ) → c < s .width → marked (x .marks) c ≡ false → getD ts c 0 ≤ 1099511627775
+  pub time : (c : ℕ) → c < s .width → marked (x .marks) c ≡ false → getD ts c 0 ≤ latest-time
   -- at most one faulty predecessor
   pub few : (c : ℕ) → c < s .width → faulty-among (x .marks) (predecessors (s .width) c) ≤ 1
   pub slow : (c : ℕ) → c < s .width → getD (x .drifts) c 0 ≤ s .drift
@@ -34,22 +35,22 @@ pub record Accepted (s : Settings) (ts : List ℕ) (x : Call) : Type 0 where
   pub delay : (c k : ℕ) → c < s .width → k < s .width → is-predecessor (s .width) c k ≡ true → marked (x .marks) k ≡ false →
       (s .delay - s .uncertainty ≤ link (s .width) (x .links) c k) × (link (s .width) (x .links) c k ≤ s .delay)
   pub arrival : (c k : ℕ) → c < s .width → k < s .width → is-predecessor (s .width) c k ≡ true → marked (x .marks) k ≡ true →
-      (link (s .width) (x .links) c k ≡ silence → ⊥) → link (s .width) (x .links) c k ≤ 1099511627775
+      (link (s .width) (x .links) c k ≡ silence → ⊥) → link (s .width) (x .links) c k ≤ latest-time
 
 lengths-of : (w : ℕ) (ts : List ℕ) (x : Call) → lengths-right w ts x ≡ true → Lengths w ts x
 unfolding lengths-right
 lengths-of w ts x e = sized w (length ts) (length (x .marks)) (length (x .drifts)) (length (x .links)) (x .room) e
 
-time-of : (t : ℕ) (m : Bool) → m ≡ false → (not m && ltb 1099511627775 t) ≡ false → t ≤ 1099511627775
-time-of t m p e = ltb-false 1099511627775 t (rw p at e)
+time-of : (t : ℕ) (m : Bool) → m ≡ false → (not m && ltb latest-time t) ≡ false → t ≤ latest-time
+time-of t m p e = ltb-false latest-time t (rw p at e)
 
 delay-of : (s : Settings) (m : Bool) (v : ℕ) → m ≡ false → bad-value s m v ≡ false → (s .delay - s .uncertainty ≤ v) × (v ≤ s .delay)
 unfolding bad-value
 delay-of s m v p e = inside (s .delay - s .uncertainty) (s .delay) v (rw p at e)
 
-arrival-of : (s : Settings) (m : Bool) (v : ℕ) → m ≡ true → bad-value s m v ≡ false → (v ≡ silence → ⊥) → v ≤ 1099511627775
+arrival-of : (s : Settings) (m : Bool) (v : ℕ) → m ≡ true → bad-value s m v ≡ false → (v ≡ silence → ⊥) → v ≤ latest-time
 unfolding bad-value
-arrival-of s m v p e n = ltb-false 1099511627775 v (rw (p, ne-eqb v silence n) at e)
+arrival-of s m v p e n = ltb-false latest-time v (rw (p, ne-eqb v silence n) at e)
 
 pub accepted : (s : Settings) (ts : List ℕ) (x : Call) → row-refusal s ts x ≡ 0 → Accepted s ts x
 unfolding row-refusal row-tests late-time crowded fast bad-links bad-link predecessors

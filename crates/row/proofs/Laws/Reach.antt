@@ -1,7 +1,7 @@
 -- How far one faulty tile reaches, of two runs that differ in nothing else: rows up to its own are the same, later rows are
 -- the same outside its cone, and inside it differ by at most 2B + 8h and a tick for each row more. Assumes nothing.
 use mathlib.Core.Path.{_≡_, refl, sym, _∙_, ap, subst}
-use mathlib.Core.Bool.{Bool, true, false, cond, _&&_, _||_, true≢false}
+use mathlib.Core.Bool.{Bool, true, false, cond, _&&_, or-false, and-false, true≢false}
 use mathlib.Core.List.{List}
 use Prim.Native.Nat.{ℕ, zero, suc, _+_, _-_, _*_, _≤_, _<_}
 use lib.Dec.{eqb}
@@ -86,14 +86,6 @@ hop-back {w} n c j k i p v =
     by-equal j c
     (λ e. record { hops = v .hops; few = omega (arith, v .few); way = subst (Way w (v .hops) k) e (v .way) })
     (λ e. record { hops = suc (v .hops); few = omega (arith, v .few); way = hop i (rw (ne-eqb j c e) at p) (v .way) })
-
-or-false : (a : Bool) → (a || false) ≡ a
-or-false true = refl
-or-false false = refl
-
-and-false : (a : Bool) → (a && false) ≡ false
-and-false true = refl
-and-false false = refl
 
 -- the two runs
 module _ {s : Settings} {ts : List ℕ} {xs ys : List Call} {rs qs : List (List ℕ)} {f k : ℕ} (run : Run s ts xs rs) (run′ : Run s ts ys qs)

@@ -11,7 +11,7 @@ use Rattle.rule.specs.Settings.{step-of}
 use Rattle.rule.specs.Clock.{reads, first-tick}
 use Rattle.rule.specs.Stamp.{Stamp, _≼_, silence, stamp-of, code-of, earliest, latest}
 use Rattle.rule.specs.Closed.{closed-P, Forwardable}
-use Rattle.rule.specs.Tile.{tile-pulse}
+use Rattle.rule.specs.Tile.{latest-stamp, tile-pulse}
 use Rattle.rule.specs.declared.settings.Settings.{Settings}
 use Rattle.rule.proofs.Promises.{closed}
 use Rattle.rule.proofs.Laws.Cases.{by-order}
@@ -154,7 +154,7 @@ module _ {s : Settings} {ts : List ℕ} {x : Call} (r : Accepted s ts x) (c : �
   abbrev beside-it : List Stamp
   beside-it = map (stamp (s .width) ts x c) (neighbours (s .width) c)
 
-  small : 2199023255551 ≤ 4398046511104
+  small : latest-stamp ≤ 4398046511104
   small = omega arith
 
   pulsing : {o l m : ℕ} → o ≡ code-of (heard-at c) → l ≡ code-of (earliest beside-it) → m ≡ code-of (latest beside-it) → Pulsing s ts x c o l m
@@ -169,7 +169,7 @@ module _ {s : Settings} {ts : List ℕ} {x : Call} (r : Accepted s ts x) (c : �
         pulses = rw (a, b, d, code-stamp small own-by, code-stamp small (earliest-by all-by), code-stamp small (latest-by all-by), closed (heard-at c) t);
       }
 
-  heard-sender : {k p : ℕ} → Sender (s .width) c k p → By 2199023255551 (heard-at k)
+  heard-sender : {k p : ℕ} → Sender (s .width) c k p → By latest-stamp (heard-at k)
   heard-sender {k} e = stamp-by r c i k (e .in-row) (e .heard-by)
 
   -- with two neighbours and with three

@@ -11,6 +11,7 @@ use native.Mathlib.Omega.{arith}
 use borrow.Author.Tests.{eq-eqb, ne-eqb}
 use Rattle.rule.specs.Clock.{reads}
 use Rattle.rule.specs.Stamp.{Stamp, heard, silent, silence, All, unheard-of, unheard-in}
+use Rattle.rule.specs.Tile.{latest-stamp}
 use Rattle.rule.specs.declared.settings.Settings.{Settings}
 use Rattle.rule.specs.Promises.{Tile}
 use Rattle.rule.proofs.Laws.Cases.{by-equal}
@@ -18,7 +19,7 @@ use Rattle.rule.proofs.Laws.Settings.{limits}
 use Rattle.rule.proofs.Laws.Stamp.{By, heard-by, unheard}
 use Rattle.rule.proofs.Laws.Coded.{stamp-silent, stamp-heard}
 use Rattle.row.specs.Columns.{are-neighbours, columns-from, neighbours, is-predecessor, predecessors}
-use Rattle.row.specs.Call.{Call, marked, link, arrives, arrival, read-at, stamp}
+use Rattle.row.specs.Call.{Call, latest-time, marked, link, arrives, arrival, read-at, stamp}
 use Rattle.row.specs.Refusal.{faulty-among}
 use Rattle.row.proofs.Laws.Columns.{beside, strangers, Column, first, third, third-from-last, last, inner, column, neighbours-first, neighbours-third, neighbours-third-last, neighbours-last, neighbours-inner}
 use Rattle.row.proofs.Laws.Lists.{by-test, columns-all}
@@ -29,7 +30,7 @@ abbrev pub one : (marks : List ℕ) → ℕ → ℕ
 one ms k = cond (marked ms k) 1 0
 
 -- a reading of an arrival of an accepted row
-reads-small : (p a : ℕ) → p ≤ 10000 → a ≤ 1099512627775 → reads p 0 a ≤ 2199023255551
+reads-small : (p a : ℕ) → p ≤ 10000 → a ≤ latest-time + 1000000 → reads p 0 a ≤ latest-stamp
 unfolding reads
 reads-small p a i j = omega (arith, mul-le-mul-left a i)
 
@@ -93,7 +94,7 @@ module _ {s : Settings} {ts : List ℕ} {x : Call} (r : Accepted s ts x) (c : �
   unfolding stamp arrival arrives read-at
   faulty-heard k m n = rw (m, stamp-heard (link (s .width) (x .links) c k) n)
 
-  pub stamp-by : (k : ℕ) → k < s .width → is-predecessor (s .width) c k ≡ true → By 2199023255551 (stamp (s .width) ts x c k)
+  pub stamp-by : (k : ℕ) → k < s .width → is-predecessor (s .width) c k ≡ true → By latest-stamp (stamp (s .width) ts x c k)
   stamp-by k j p =
       by-test (marked (x .marks) k)
       (λ m. by-equal (link (s .width) (x .links) c k) silence
@@ -134,10 +135,10 @@ module _ {s : Settings} {ts : List ℕ} {x : Call} (r : Accepted s ts x) (c : �
           with-own (x .marks) (are-neighbours (s .width) c) c (strangers (s .width) c c (omega (arith, limits s (r .settings) .width))) (s .width) 0 (omega arith) (omega arith)
 
   -- a neighbour is a predecessor
-  pub neighbours-by : All (By 2199023255551) (map (stamp (s .width) ts x c) (neighbours (s .width) c))
+  pub neighbours-by : All (By latest-stamp) (map (stamp (s .width) ts x c) (neighbours (s .width) c))
   unfolding neighbours
   neighbours-by =
-      columns-all (are-neighbours (s .width) c) (By 2199023255551) (stamp (s .width) ts x c) (s .width) 0
+      columns-all (are-neighbours (s .width) c) (By latest-stamp) (stamp (s .width) ts x c) (s .width) 0
       (λ k j l t. stamp-by k (omega arith) (beside (s .width) c k t))
 
 -- every column has two neighbours or three

@@ -1,8 +1,8 @@
 -- A table as a loop fills it: its least and most grow at its end, and the list written place by place is the table. Assumes nothing.
 use mathlib.Core.Path.{_≡_, refl, sym, _∙_, ap}
 use mathlib.Core.List.{List}
-use Prim.Native.Nat.{ℕ, zero, suc, _+_, _≤_, _<_, min, max}
-use lib.ListN.{length, getD, set, length-set}
+use Prim.Native.Nat.{ℕ, zero, suc, _+_, _<_, min, max}
+use lib.ListN.{length, set, length-set}
 use lib.Seq.{getD-set-same, getD-set-other, ext-getD}
 use native.Mathlib.Numerals.{add-one}
 use native.Mathlib.Omega.{arith}
@@ -10,6 +10,7 @@ use Rattle.rule.specs.Stamp.{silence}
 use Rattle.rule.proofs.Laws.Cases.{by-equal}
 use Rattle.row.specs.Call.{table-from}
 use Rattle.row.specs.Refusal.{least-of, most-of}
+use Rattle.row.specs.Progress.{Filled}
 use Rattle.row.proofs.Laws.Lists.{table-length, table-at}
 
 module _ (f : ℕ → ℕ) where
@@ -22,14 +23,6 @@ module _ (f : ℕ → ℕ) where
   unfolding most-of table-from
   most-grows zero a = let e : a + 0 ≡ a = omega arith in rw e (omega arith)
   most-grows (suc n) a = let e : a + suc n ≡ suc a + n = omega arith in rw e (omega (arith, most-grows n (suc a)))
-
--- the first c places hold what f gives, and least and most are theirs
-pub record Filled (f : ℕ → ℕ) (held times : List ℕ) (least most c : ℕ) : Type 0 where
-  pub same : length times ≡ length held
-  pub within : c ≤ length held
-  pub filled : (k : ℕ) → k < c → getD times k 0 ≡ f k
-  pub is-least : least ≡ least-of (table-from c 0 f)
-  pub is-most : most ≡ most-of (table-from c 0 f)
 
 pub none-filled : (f : ℕ → ℕ) (held : List ℕ) → Filled f held held silence 0 0
 unfolding least-of most-of table-from
@@ -55,6 +48,11 @@ module _ {f : ℕ → ℕ} {held times : List ℕ} {least most c : ℕ} (r : Fil
         is-least = rw (is-l, add-one, r .is-least, e) (sym (rw start at (least-grows f c 0)));
         is-most = rw (is-m, add-one, r .is-most, e) (sym (rw start at (most-grows f c 0)));
       }
+
+  -- only the length of what was held matters
+  pub held-as : {other : List ℕ} → length other ≡ length held → Filled f other times least most c
+  held-as e =
+      record { same = r .same ∙ sym e; within = omega (arith, r .within); filled = r .filled; is-least = r .is-least; is-most = r .is-most }
 
   pub all-filled : c ≡ length held → times ≡ table-from c 0 f
   all-filled e =

@@ -12,9 +12,10 @@ use Rattle.rule.specs.declared.settings.Settings.{Settings}
 use Rattle.rule.proofs.Laws.Settings.{limits}
 use Rattle.row.specs.Call.{Call, call, pulse, table-from, row-of}
 use Rattle.row.specs.Refusal.{row-refusal, least-of, most-of, planned, written}
+use Rattle.row.specs.Progress.{Filled}
 use Rattle.row.specs.declared.Planned.the-variants.{Row, Refused}
 use Rattle.row.proofs.Laws.Accepted.{Accepted, accepted}
-use Rattle.row.proofs.Laws.Table.{Filled, none-filled, one-more, all-filled}
+use Rattle.row.proofs.Laws.Table.{none-filled, held-as, all-filled}
 use Rattle.row.proofs.plan.Statement.{statement}
 use Rattle.row.proofs.plan.Tie as tie
 
@@ -34,19 +35,18 @@ module _ (s : Settings) (ts : List ℕ) (x : Call) where
       (rw (t, is-e, is-l), rw t is-t)
 
 abbrev Inv-loop : tie.InvT-loop
-Inv-loop settings before marks drifts links times₀ number step earliest₀ latest₀ c₀ times earliest latest c =
-    Filled (pulse settings before (call marks drifts links (length times₀))) times₀ times earliest latest c
+Inv-loop settings before marks drifts links times₀ number step done₀ times done =
+    Filled (pulse settings before (call marks drifts links (settings .width))) times₀ times (done .earliest) (done .latest) (done .next)
 
 abbrev μ-loop : tie.MeasureT-loop
-μ-loop settings before marks drifts links times₀ number step earliest₀ latest₀ c₀ times earliest latest c =
-    length times₀ - c
+μ-loop settings before marks drifts links times₀ number step done₀ times done = length times₀ - done .next
 
 -- the start of the function, from the loop's head, and what was lent
 abbrev first : tie.After-refusal Inv-loop μ-loop → tie.Start Inv-loop μ-loop
 first c = c .before .before .before .before .before .before
 
 abbrev start : tie.At-loop Inv-loop μ-loop → tie.Start Inv-loop μ-loop
-start c = first (c .before .before .before)
+start c = first (c .before .before .before .before)
 
 abbrev lent : tie.Start Inv-loop μ-loop → Call
 lent s = call (s .args .marks .now) (s .args .drifts .now) (s .args .links .now) (length (s .args .times .now))
@@ -62,6 +62,15 @@ room : (c : tie.Else1 Inv-loop μ-loop) → let s = first (c .before) in length 
 unfolding call
 room c = ok c .lengths .room
 
+-- the same by the settings' width
+abbrev sized : tie.Start Inv-loop μ-loop → Call
+sized s = call (s .args .marks .now) (s .args .drifts .now) (s .args .links .now) (s .args .settings .width)
+
+passed-sized : (c : tie.Else1 Inv-loop μ-loop) → let s = first (c .before) in row-refusal (s .args .settings) (s .args .before .now) (sized s) ≡ 0
+passed-sized c =
+    let a = first (c .before) .args in
+    subst (λ (n : ℕ). row-refusal (a .settings) (a .before .now) (call (a .marks .now) (a .drifts .now) (a .links .now) n) ≡ 0) (room c) (passed c)
+
 refusal-requires : tie.Need-refusal-requires Inv-loop μ-loop
 refusal-requires c κs = search needs
 
@@ -73,82 +82,65 @@ returns c =
 step-requires : tie.Need-step-requires Inv-loop μ-loop
 step-requires c κs = let k = limits (first (c .before) .args .settings) (ok c .settings) in (k .unit .1, k .drift)
 
+none-requires : tie.Need-none-requires Inv-loop μ-loop
+none-requires c κs = search needs
+
 loop-holds : tie.Need-loop-holds Inv-loop μ-loop
-loop-holds c = let s = first (c .before .before) in none-filled (pulse (s .args .settings) (s .args .before .now) (lent s)) (s .args .times .now)
+loop-holds c =
+    let s = first (c .before .before .before) in
+    let e = c .none .ensures in
+    rw (e .0, e .1, e .2) (none-filled (pulse (s .args .settings) (s .args .before .now) (sized s)) (s .args .times .now))
 
-in-row : (c : tie.In-loop Inv-loop μ-loop) → c .before .loop .c < length (start (c .before) .args .times .now)
-in-row c = omega (arith, c .loop-test .taken, c .before .loop .inv .same)
+-- at the loop's test
+abbrev accepted-at : tie.At-loop Inv-loop μ-loop → tie.Else1 Inv-loop μ-loop
+accepted-at c = c .before .before .before
 
-narrow : (c : tie.In-loop Inv-loop μ-loop) → c .before .loop .c < 256
-narrow c =
-    let e = c .before .before .before in
-    omega (arith, in-row c, room e, limits (start (c .before) .args .settings) (ok e .settings) .width)
+in-row : (c : tie.Then2 Inv-loop μ-loop) → let l = c .before .before in l .loop .done .next < start l .args .settings .width
+in-row c = let l = c .before .before in omega (arith, c .if2 .taken, l .loop .inv .same, room (accepted-at l))
 
-pulse-requires : tie.Need-pulse-requires Inv-loop μ-loop
+further-requires : tie.Need-further-requires Inv-loop μ-loop
 unfolding step-of
-pulse-requires c κs =
-    let s = start (c .before) in
-    let e = c .before .before .before in (
-      subst
-          (λ (n : ℕ). row-refusal (s .args .settings) (s .args .before .now) (call (s .args .marks .now) (s .args .drifts .now) (s .args .links .now) n) ≡ 0)
-          (room e) (passed e),
-      c .before .before .step .ensures,
-      omega (arith, in-row c, room e),
-    )
-
-mul-times : tie.Need-mul-times Inv-loop μ-loop
-mul-times c = omega (arith, narrow (c .before))
-
-slice-write-times : tie.Need-slice-write-times Inv-loop μ-loop
-slice-write-times c = omega (arith, c .before .loop-test .taken)
-
-smaller-requires : tie.Need-smaller-requires Inv-loop μ-loop
-smaller-requires c κs = search needs
-
-larger-requires : tie.Need-larger-requires Inv-loop μ-loop
-larger-requires c κs = search needs
-
-add-c : tie.Need-add-c Inv-loop μ-loop
-add-c c = omega (arith, narrow (c .before .before .before))
+further-requires c κs =
+    let l = c .before .before .before in
+    let i = l .loop .inv in
+    let e = accepted-at l in
+    ((passed-sized e, l .before .before .step .ensures, i .same ∙ room e, in-row (c .before)), held-as i (i .same))
 
 loop-less : tie.Need-loop-less Inv-loop μ-loop
-loop-less c = omega (arith, in-row (c .before .before .before))
-
-pulse-known : (c : tie.After-pulse Inv-loop μ-loop) →
-    let a = c .before .before in
-    let s = start a in
-    c .pulse .result ≡ pulse (s .args .settings) (s .args .before .now) (lent s) (a .loop .c)
-pulse-known c =
-    let a = c .before .before in
-    let s = start a in
-    subst
-    (λ (n : ℕ). c .pulse .result ≡ pulse (s .args .settings) (s .args .before .now) (call (s .args .marks .now) (s .args .drifts .now) (s .args .links .now) n) (a .loop .c))
-    (sym (room (a .before .before))) (c .pulse .ensures)
+loop-less c =
+    let f = c .before .before in
+    let t = f .before .before in
+    let l = t .before .before in
+    omega (arith, f .further .ensures .1, in-row t, room (accepted-at l))
 
 loop-again : tie.Need-loop-again Inv-loop μ-loop
 loop-again c =
-    let p = c .before .before in
-    one-more (p .before .before .loop .inv) (in-row (p .before)) (pulse-known p) (c .before .smaller .ensures) (c .larger .ensures)
+    let f = c .before .before in
+    let l = f .before .before .before .before in
+    held-as (f .further .ensures .0) (sym (l .loop .inv .same))
 
 same-length : tie.Need-same-length Inv-loop μ-loop
-same-length c = c .before .loop .inv .same
-
-at-end : (c : tie.After-loop Inv-loop μ-loop) → c .before .loop .c ≡ start (c .before) .args .settings .width
-at-end c = let i = c .before .loop .inv in omega (arith, c .loop-test .left, i .same, i .within, room (c .before .before .before))
+same-length c = c .before .before .loop .inv .same
 
 returns-2 : tie.Need-returns-2 Inv-loop μ-loop
+unfolding row-of
 returns-2 c =
-    let s = start (c .before) in
+    let l = c .before .before in
+    let s = start l in
     let a = s .args in
-    let i = c .before .loop .inv in
-    let e = c .before .before .before in
-    let w = at-end c in
-    let f = pulse (a .settings) (a .before .now) (lent s) in
-    unfold row-of in
-    filled (a .settings) (a .before .now) (lent s) (c .before .loop .earliest) (c .before .loop .latest) (a .times .now) (c .before .loop .times) (passed e)
+    let i = l .loop .inv in
+    let e = accepted-at l in
+    let done = l .loop .done in
+    let w : done .next ≡ a .settings .width = omega (arith, c .if2 .left, i .same, i .within, room e) in
+    let f = pulse (a .settings) (a .before .now) (sized s) in
+    subst
+    (λ (n : ℕ). let x = call (a .marks .now) (a .drifts .now) (a .links .now) n in
+    (Row (done .earliest) (done .latest) ≡ planned (a .settings) (a .before .now) x) × (l .loop .times ≡ written (a .settings) (a .before .now) x (a .times .now)))
+    (sym (room e))
+    (filled (a .settings) (a .before .now) (sized s) (done .earliest) (done .latest) (a .times .now) (l .loop .times) (passed-sized e)
     (i .is-least ∙ ap (λ (n : ℕ). least-of (table-from n 0 f)) w)
     (i .is-most ∙ ap (λ (n : ℕ). most-of (table-from n 0 f)) w)
-    (all-filled i (w ∙ sym (room e)) ∙ ap (λ (n : ℕ). table-from n 0 f) w)
+    (all-filled i (w ∙ sym (room e)) ∙ ap (λ (n : ℕ). table-from n 0 f) w))
 
 pub plan-spec : {M : Type 1} → statement M
 plan-spec =
@@ -159,13 +151,9 @@ plan-spec =
     refusal-requires
     returns
     step-requires
+    none-requires
     loop-holds
-    pulse-requires
-    mul-times
-    slice-write-times
-    smaller-requires
-    larger-requires
-    add-c
+    further-requires
     loop-less
     loop-again
     same-length

@@ -1,34 +1,31 @@
 -- A tile's places: none late and few silent, place by place. Assumes nothing.
 use mathlib.Core.Path.{_≡_, refl, sym, _∙_, ap, subst}
-use mathlib.Core.Bool.{Bool, true, false, not, _||_, true≢false}
+use mathlib.Core.Bool.{Bool, true, false, not, true≢false}
 use mathlib.Core.List.{List, [], _∷_}
 use mathlib.Core.Option.{Option, none, some}
-use Prim.Native.Nat.{ℕ, zero, suc, _+_, _≤_, _<_}
+use Prim.Native.Nat.{ℕ, zero, suc, _+_, _≤_}
 use lib.ListN.{length}
 use native.Mathlib.Omega.{arith}
 use lib.Dec.{ltb, eqb}
 use lib.IntN.{ℤ, pos, negsuc, _-ℤ_}
 use borrow.Author.Tests.{ltb-false, eq-eqb, ne-eqb}
-use Rattle.rule.specs.Refusal.{first, _when_, outside}
+use Rattle.rule.specs.Refusal.{first, _when_, outside, any-below}
 use Rattle.rule.specs.Settings.{settings-refusal, step-of}
 use Rattle.rule.specs.Signed.{natural}
 use Rattle.rule.specs.Stamp.{Stamp, heard, silent, _≼_, earliest, latest, All, none, more, unheard-of, unheard-in}
 use Rattle.rule.specs.Forward.{correction}
 use Rattle.rule.specs.Closed.{closed-P}
-use Rattle.rule.specs.Tile.{any-late, late-from, late-at, silences, silent-at, count-silent, answer, answered, forwarded, own-stamp, number-of, P-of, correction-of, stamp-from, stamp-at, reading-at, neighbour-places, neighbour-stamps, Readable, stamp-tests, tile-tests, tile-refusal}
+use Rattle.rule.specs.Tile.{latest-stamp, late-from, late-at, silences, silent-at, count-silent, answer, answered, forwarded, own-stamp, number-of, P-of, correction-of, stamp-from, stamp-at, reading-at, neighbour-places, neighbour-stamps, Readable, stamp-tests, tile-tests, tile-refusal}
 use Rattle.rule.specs.declared.settings.Settings.{Settings}
 use Rattle.rule.specs.declared.tile.Forwarded.the-variants.{Corrected, Uncorrected, Refused}
 use Rattle.rule.specs.declared.tile.Stamps.{Stamps}
 use Rattle.rule.proofs.Laws.Cases.{by-order, by-zero}
 use Rattle.rule.proofs.Laws.Refusal.{neither, unhit, unhit-given, inside}
+use Rattle.rule.proofs.Laws.AnyBelow.{none-below, same-below}
 use Rattle.rule.proofs.Laws.Settings.{limits}
 use Rattle.rule.proofs.Laws.Closed.{rule-closed}
 use Rattle.rule.proofs.Laws.Stamp.{By, heard-by, unheard, earliest-≼-latest}
 use Rattle.rule.proofs.Laws.Forward.{Enough, enough}
-
-or-true : (a : Bool) → (a || true) ≡ true
-or-true true = refl
-or-true false = refl
 
 pub silent-most : (b : Bool) → count-silent b ≤ 1
 unfolding count-silent
@@ -36,23 +33,6 @@ silent-most true = omega arith
 silent-most false = omega arith
 
 module _ (x : Stamps) where
-  pub some-late : (n k : ℕ) → k < n → late-at x k ≡ true → any-late x n ≡ true
-  unfolding any-late
-  some-late zero k i e = let never : ⊥ = omega arith in absurd never
-  some-late (suc n) k i e =
-      by-order n k
-      (λ p. let here : k ≡ n = omega arith in rw (← here, e) (or-true (any-late x k)))
-      (λ p. rw (some-late n k p e))
-
-  pub none-late : (n k : ℕ) → k < n → any-late x n ≡ false → late-at x k ≡ false
-  unfolding any-late
-  none-late zero k i e = let never : ⊥ = omega arith in absurd never
-  none-late (suc n) k i e =
-      let b = neither (any-late x n) (late-at x n) e in
-      by-order n k
-      (λ p. let here : k ≡ n = omega arith in rw here (b .1))
-      (λ p. none-late n k p (b .0))
-
   pub silences-most : (n : ℕ) → silences x n ≤ n
   unfolding silences
   silences-most zero = omega arith
@@ -62,11 +42,11 @@ module _ (x : Stamps) where
 pub record Reading (z : ℤ) : Type 0 where
   pub n : ℕ
   pub is : z ≡ pos n
-  pub small : n ≤ 2199023255551
+  pub small : n ≤ latest-stamp
 
 pub on-time : (z : ℤ) → late-from false z ≡ false → Reading z
 unfolding late-from
-on-time (pos n) e = record { n = n; is = refl; small = ltb-false 2199023255551 n (neither (ltb n 0) (ltb 2199023255551 n) e .1) }
+on-time (pos n) e = record { n = n; is = refl; small = ltb-false latest-stamp n (neither (ltb n 0) (ltb latest-stamp n) e .1) }
 on-time (negsuc n) e = absurd (true≢false e)
 
 -- the answer in closed form
@@ -83,9 +63,6 @@ module _ (s : Settings) (accepted : settings-refusal s ≡ 0) {l m : Stamp} (ord
   answered-heard o = rw (rule-closed (limits s accepted .unit .0) (step-of s) (heard o) ordered)
 
 -- the stamps of places that are not late are heard by 2^41 - 1
-abbrev pub latest-stamp : ℕ
-latest-stamp = 2199023255551
-
 pub stamp-on-time : (silent : Bool) (z : ℤ) → late-from silent z ≡ false → By latest-stamp (stamp-from silent z)
 unfolding stamp-from natural
 stamp-on-time true z e = unheard
@@ -93,7 +70,7 @@ stamp-on-time false z e = let r = on-time z e in rw (r .is) (heard-by (r .small)
 
 module _ {x : Stamps} (r : Readable x) where
   pub place-on-time : (k : ℕ) → k ≤ x .count → late-at x k ≡ false
-  place-on-time k i = none-late x (suc (x .count)) k (omega arith) (r .on-time)
+  place-on-time k i = none-below (late-at x) (suc (x .count)) k (omega arith) (r .on-time)
 
   pub place-by : (k : ℕ) → k ≤ x .count → By latest-stamp (stamp-at x k)
   unfolding stamp-at late-at
@@ -137,7 +114,7 @@ unfolding tile-refusal tile-tests stamp-tests
 accepted s x e =
     let t1 = unhit-given (settings-refusal s) _ e in
     let t2 = unhit 10 (outside 2 3 (x .count)) _ (t1 .1) in
-    let t3 = unhit 11 (any-late x (suc (x .count))) _ (t2 .1) in
+    let t3 = unhit 11 (any-below (suc (x .count)) (late-at x)) _ (t2 .1) in
     let t4 = unhit 12 (ltb 1 (silences x (suc (x .count)))) _ (t3 .1) in
     let k = inside 2 3 (x .count) (t2 .0) in
     record {
@@ -239,11 +216,6 @@ module _ {x y : Stamps} (a : Alike x y) where
   unfolding late-at
   late-alike k i = late-same (silent-at x k) (a .reading k i) ∙ ap (λ (b : Bool). late-from b (reading-at y k)) (a .silent k i)
 
-  any-late-alike : (n : ℕ) → n ≤ suc (x .count) → any-late x n ≡ any-late y n
-  unfolding any-late
-  any-late-alike zero i = refl
-  any-late-alike (suc n) i = rw (any-late-alike n (omega arith), late-alike n (omega arith))
-
   silences-alike : (n : ℕ) → n ≤ suc (x .count) → silences x n ≡ silences y n
   unfolding silences
   silences-alike zero i = refl
@@ -252,8 +224,8 @@ module _ {x y : Stamps} (a : Alike x y) where
   pub refusal-alike : (s : Settings) → tile-refusal s x ≡ tile-refusal s y
   unfolding tile-refusal tile-tests stamp-tests
   refusal-alike s =
-      rw (any-late-alike (suc (x .count)) (omega arith), silences-alike (suc (x .count)) (omega arith))
-      (ap (λ (n : ℕ). first (settings-refusal s when not (eqb (settings-refusal s) 0) ∷ 11 when outside 2 3 n ∷ 12 when any-late y (suc n) ∷ 13 when ltb 1 (silences y (suc n)) ∷ [])) (a .count))
+      rw (same-below (late-at x) (late-at y) (suc (x .count)) (λ k i. late-alike k (omega arith)), silences-alike (suc (x .count)) (omega arith))
+      (ap (λ (n : ℕ). first (settings-refusal s when not (eqb (settings-refusal s) 0) ∷ 11 when outside 2 3 n ∷ 12 when any-below (suc n) (late-at y) ∷ 13 when ltb 1 (silences y (suc n)) ∷ [])) (a .count))
 
   pub neighbours-alike : Readable x → neighbour-stamps x ≡ neighbour-stamps y
   neighbours-alike r =

@@ -4,6 +4,7 @@ use mathlib.Core.Bool.{true, false}
 use native.Mathlib.Omega.{arith}
 use borrow.Author.Needs.{needs}
 use Rattle.row.specs.Call.{marked}
+use Rattle.row.specs.Plain.{received}
 use Rattle.row.proofs.Laws.Stampable.{code-silent, code-faulty, code-correct}
 use Rattle.row.proofs.pulse.stamp.Statement.{statement}
 use Rattle.row.proofs.pulse.stamp.Tie as tie
@@ -39,24 +40,17 @@ returns-2 c =
     let e = c .before in
     c .reading .ensures ∙ sym (code-faulty (start (e .before .before) .args .drift) _ _ (is-faulty (e .before)) (e .if2 .left))
 
-mul-reading : tie.Need-mul-reading
-mul-reading c = search needs
-
-shared-slice-read-reading : tie.Need-shared-slice-read-reading
-shared-slice-read-reading c = search needs
-
-add-reading : tie.Need-add-reading
-add-reading c = omega (arith, start (c .before .before) .pre .delay (is-correct (c .before)))
-
-reading-requires-2 : tie.Need-reading-requires-2
-reading-requires-2 c κs =
-    let p = start (c .before .before) .pre in
-    omega (arith, p .slow, p .delay (is-correct (c .before)))
+received-requires : tie.Need-received-requires
+received-requires c κs =
+    let p = start (c .before) .pre in
+    let d = p .delay (is-correct c) in
+    record { slow = p .slow; in-row = p .in-row; in-links = p .in-links; time = d .0; delay = d .1 }
 
 returns-3 : tie.Need-returns-3
+unfolding received
 returns-3 c =
-    let e = c .before .before in
-    c .reading2 .ensures ∙ sym (code-correct (start (e .before) .args .drift) _ _ (is-correct e))
+    let e = c .before in
+    c .received .ensures ∙ sym (code-correct (start (e .before) .args .drift) _ _ (is-correct e))
 
 pub stamp-spec : {M : Type 1} → statement M
 stamp-spec =
@@ -68,8 +62,5 @@ stamp-spec =
     returns
     reading-requires
     returns-2
-    mul-reading
-    shared-slice-read-reading
-    add-reading
-    reading-requires-2
+    received-requires
     returns-3)

@@ -106,16 +106,16 @@ returns-6 : tie.Need-returns-6
 unfolding row-refusal row-tests call lengths-right
 returns-6 c = sym (past-5 (c .before .before) ∙ hit 25 _ (sym (c .before .fast .ensures) ∙ c .if6 .taken))
 
-bad-link-requires : tie.Need-bad-link-requires
-bad-link-requires c κs = let e = c .before .before .before .before .before .before .before .before in (accepted (e .before .before), refl, lengths-of e .marks, lengths-of e .links)
+any-bad-links-requires : tie.Need-any-bad-links-requires
+any-bad-links-requires c κs = let e = c .before .before .before .before .before .before .before .before in (accepted (e .before .before), refl, lengths-of e .marks, lengths-of e .links)
 
 returns-7 : tie.Need-returns-7
 unfolding row-refusal row-tests call lengths-right
-returns-7 c = sym (past-6 (c .before .before) ∙ hit 26 _ (sym (c .before .bad-link .ensures) ∙ c .if7 .taken))
+returns-7 c = sym (past-6 (c .before .before) ∙ hit 26 _ (sym (c .before .any-bad-links .ensures) ∙ c .if7 .taken))
 
 returns-8 : tie.Need-returns-8
 unfolding row-refusal row-tests call lengths-right
-returns-8 c = sym (past-6 (c .before .before) ∙ end 26 (sym (c .before .bad-link .ensures) ∙ c .if7 .left))
+returns-8 c = sym (past-6 (c .before .before) ∙ end 26 (sym (c .before .any-bad-links .ensures) ∙ c .if7 .left))
 
 pub refusal-spec : {M : Type 1} → statement M
 refusal-spec =
@@ -133,6 +133,6 @@ refusal-spec =
     returns-5
     fast-requires
     returns-6
-    bad-link-requires
+    any-bad-links-requires
     returns-7
     returns-8)

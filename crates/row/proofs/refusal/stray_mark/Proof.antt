@@ -4,8 +4,9 @@ use mathlib.Core.Bool.{false}
 use Prim.Native.Nat.{_*_, _-_, _≤_}
 use native.Mathlib.Omega.{arith}
 use borrow.Author.Tests.{le-leb, lt-leb}
-use Rattle.row.specs.Refusal.{any-below, stray-mark, mark-bytes}
-use Rattle.row.proofs.Laws.AnyBelow.{some-below, none-till, none-below-more}
+use Rattle.rule.specs.Refusal.{any-below}
+use Rattle.row.specs.Refusal.{stray-mark, mark-bytes}
+use Rattle.rule.proofs.Laws.AnyBelow.{some-below, none-till, none-below-more}
 use Rattle.row.proofs.refusal.stray_mark.Statement.{statement}
 use Rattle.row.proofs.refusal.stray_mark.Tie as tie
 

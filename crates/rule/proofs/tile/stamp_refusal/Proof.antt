@@ -7,9 +7,11 @@ use native.Mathlib.Numerals.{add-one}
 use native.Mathlib.Omega.{arith}
 use borrow.Author.Needs.{needs}
 use borrow.Author.Tests.{lt-ltb, le-ltb}
-use Rattle.rule.specs.Tile.{any-late, silences as silences-to, silent-at, stamp-tests, stamp-refusal}
+use Rattle.rule.specs.Refusal.{any-below}
+use Rattle.rule.specs.Tile.{late-at, silences as silences-to, silent-at, stamp-tests, stamp-refusal}
 use Rattle.rule.proofs.Laws.Refusal.{skip, hit, end}
-use Rattle.rule.proofs.Laws.Tile.{some-late, silent-most, silences-most}
+use Rattle.rule.proofs.Laws.AnyBelow.{some-below, none-at-zero, none-below-more}
+use Rattle.rule.proofs.Laws.Tile.{silent-most, silences-most}
 use Rattle.rule.proofs.tile.stamp_refusal.Statement.{statement}
 use Rattle.rule.proofs.tile.stamp_refusal.Tie as tie
 use Rattle.rule.proofs.tile.stamp_refusal.Reads as reads
@@ -19,7 +21,7 @@ use Rattle.rule.proofs.tile.one.Reads as one-reads
 
 abbrev Inv-loop : tie.InvT-loop
 Inv-loop stamps places silences₀ place₀ silences place =
-    (places ≡ suc (stamps .count)) × (place ≤ places) × (any-late stamps place ≡ false) × (silences ≡ silences-to stamps place)
+    (places ≡ suc (stamps .count)) × (place ≤ places) × (any-below place (late-at stamps) ≡ false) × (silences ≡ silences-to stamps place)
 
 abbrev μ-loop : tie.MeasureT-loop
 μ-loop stamps places silences₀ place₀ silences place = places - place
@@ -31,7 +33,7 @@ add-places : tie.Need-add-places Inv-loop μ-loop
 add-places c = omega arith
 
 loop-holds : tie.Need-loop-holds Inv-loop μ-loop
-loop-holds c = (omega arith, omega arith, unfold any-late in refl, unfold silences-to in refl)
+loop-holds c = (omega arith, omega arith, none-at-zero (late-at (c .args .t1)), unfold silences-to in refl)
 
 late-requires : tie.Need-late-requires Inv-loop μ-loop
 late-requires c κs = omega arith
@@ -41,7 +43,7 @@ unfolding stamp-refusal stamp-tests
 returns c =
     let a = c .before .before in
     let x = a .before .before .args .t1 in
-    sym (hit 12 _ (some-late x (suc (x .count)) (a .before .loop .place) (omega arith) (sym (c .before .late .ensures) ∙ c .if1 .taken)))
+    sym (hit 12 _ (some-below (late-at x) (suc (x .count)) (a .before .loop .place) (omega arith) (sym (c .before .late .ensures) ∙ c .if1 .taken)))
 
 element-copy-out-one : tie.Need-element-copy-out-one Inv-loop μ-loop
 element-copy-out-one c = omega arith
@@ -63,13 +65,13 @@ loop-less : tie.Need-loop-less Inv-loop μ-loop
 loop-less c = omega arith
 
 loop-again : tie.Need-loop-again Inv-loop μ-loop
-unfolding any-late silences-to silent-at
+unfolding silences-to silent-at
 loop-again c =
     let a = c .before .before .before .before in
     let i = a .before .loop .inv in (
       omega arith,
       omega arith,
-      rw (add-one, i .2, sym (c .before .before .before .late .ensures) ∙ c .before .before .if1 .left),
+      none-below-more (late-at (a .before .before .args .t1)) (a .before .loop .place) (i .2) (sym (c .before .before .before .late .ensures) ∙ c .before .before .if1 .left),
       rw (add-one, i .3, c .one .ensures),
     )
 

@@ -1,4 +1,4 @@
--- `row::refusal::bad_links` meets its contract: each link that it looks at is one of the window's. Assumes nothing.
+-- `row::links::bad_links` meets its contract: each link that it looks at is one of the window's. Assumes nothing.
 use mathlib.Core.Path.{_≡_, sym, _∙_, subst}
 use mathlib.Core.Bool.{Bool, true, false, cond, _||_}
 use Prim.Native.Nat.{_+_, _/_, _≤_, _<_}
@@ -8,8 +8,8 @@ use Rattle.rule.proofs.Laws.Settings.{limits}
 use Rattle.row.specs.Refusal.{mark-bytes, bad-value, bad-links}
 use Rattle.row.specs.Window.{four-senders}
 use Rattle.row.proofs.Laws.Window.{sender-in, sender-in-four, links-in, links-in-four, bad-at, bad-links-are}
-use Rattle.row.proofs.refusal.bad_links.Statement.{statement}
-use Rattle.row.proofs.refusal.bad_links.Tie as tie
+use Rattle.row.proofs.links.bad_links.Statement.{statement}
+use Rattle.row.proofs.links.bad_links.Tie as tie
 
 -- the start of the function, from where the first link's place is known
 abbrev row-of : tie.After-first-link → tie.Start

@@ -1,16 +1,12 @@
--- Some number below a bound: found at one, none so far, and none at all. Assumes nothing.
+-- Some number below a bound: found at one, none so far, none at all, and the same for two conditions that agree. Assumes nothing.
 use mathlib.Core.Path.{_≡_, refl}
-use mathlib.Core.Bool.{Bool, true, false, _||_}
-use Prim.Native.Nat.{ℕ, zero, suc, _+_, _<_}
+use mathlib.Core.Bool.{Bool, true, false, or-true}
+use Prim.Native.Nat.{ℕ, zero, suc, _+_, _≤_, _<_}
 use native.Mathlib.Numerals.{add-one}
 use native.Mathlib.Omega.{arith}
+use Rattle.rule.specs.Refusal.{any-below}
 use Rattle.rule.proofs.Laws.Cases.{by-order}
 use Rattle.rule.proofs.Laws.Refusal.{neither}
-use Rattle.row.specs.Refusal.{any-below}
-
-or-true : (a : Bool) → (a || true) ≡ true
-or-true true = refl
-or-true false = refl
 
 module _ (f : ℕ → Bool) where
   pub some-below : (n k : ℕ) → k < n → f k ≡ true → any-below n f ≡ true
@@ -42,3 +38,12 @@ module _ (f : ℕ → Bool) where
   pub none-at-zero : any-below 0 f ≡ false
   unfolding any-below
   none-at-zero = refl
+
+pub same-below : (f g : ℕ → Bool) (n : ℕ) → ((k : ℕ) → k < n → f k ≡ g k) → any-below n f ≡ any-below n g
+unfolding any-below
+same-below f g zero h = refl
+same-below f g (suc n) h = rw (same-below f g n (λ k i. h k (omega arith)), h n (omega arith))
+
+pub none-below-on : (f : ℕ → Bool) (n m : ℕ) → any-below n f ≡ false → ((k : ℕ) → n ≤ k → k < m → f k ≡ false) → any-below m f ≡ false
+none-below-on f n m e h =
+    none-till f m (λ k i. by-order n k (λ p. h k p i) (λ p. none-below f n k p e))

@@ -1,0 +1,210 @@
+-- `row::progress::further` meets its contract. The loop's invariant: the places passed hold their tiles' pulses, and at most eight
+-- were passed, all of a plain stretch. Assumes nothing.
+use mathlib.Core.Path.{_≡_, sym, _∙_, ap, subst}
+use Prim.Native.Nat.{ℕ, _+_, _-_, _≤_, _<_}
+use lib.ListN.{length, set}
+use native.Mathlib.Omega.{arith}
+use borrow.Author.Needs.{needs}
+use borrow.Author.Tests.{not-false}
+use Rattle.rule.proofs.Laws.Settings.{Limits, limits}
+use Rattle.row.specs.Call.{Call, call, pulse}
+use Rattle.row.specs.Refusal.{mark-bytes}
+use Rattle.row.specs.Plain.{Plain}
+use Rattle.row.specs.Progress.{Filled}
+use Rattle.row.proofs.Laws.Accepted.{Accepted, accepted}
+use Rattle.row.proofs.Laws.Plain.{plain-tile, plain-pulse}
+use Rattle.row.proofs.Laws.Table.{one-more}
+use Rattle.row.proofs.progress.further.Statement.{statement}
+use Rattle.row.proofs.progress.further.Tie as tie
+
+abbrev Inv-loop : tie.InvT-loop
+Inv-loop settings step before marks drifts links times₀ first so-far₀ times so-far =
+    Filled (pulse settings before (call marks drifts links (settings .width))) times₀ times (so-far .earliest) (so-far .latest) (so-far .next)
+    × (first ≤ so-far .next)
+    × (so-far .next ≤ first + 8)
+
+abbrev μ-loop : tie.MeasureT-loop
+μ-loop settings step before marks drifts links times₀ first so-far₀ times so-far = first + 8 - so-far .next
+
+abbrev start : tie.After-plain Inv-loop μ-loop → tie.Start Inv-loop μ-loop
+start c = c .before .before .before .before .before .before
+
+-- what was lent
+abbrev lent : tie.Start Inv-loop μ-loop → Call
+lent s = call (s .args .marks .now) (s .args .drifts .now) (s .args .links .now) (s .args .settings .width)
+
+ok : (s : tie.Start Inv-loop μ-loop) → Accepted (s .args .settings) (s .args .before .now) (lent s)
+ok s = accepted (s .args .settings) (s .args .before .now) (lent s) (s .pre .0 .0)
+
+bounds : (s : tie.Start Inv-loop μ-loop) → Limits (s .args .settings)
+bounds s = limits (s .args .settings) (ok s .settings)
+
+record Sizes (s : tie.Start Inv-loop μ-loop) : Type 0 where
+  pub here : s .args .done .next < s .args .settings .width
+  pub most : s .args .settings .width ≤ 256
+  pub times : length (s .args .times .now) ≡ s .args .settings .width
+  pub before : length (s .args .before .now) ≡ s .args .settings .width
+  pub drifts : length (s .args .drifts .now) ≡ s .args .settings .width
+  pub marks : length (s .args .marks .now) ≡ mark-bytes (s .args .settings .width)
+
+sizes : (s : tie.Start Inv-loop μ-loop) → Sizes s
+unfolding call
+sizes s =
+    record {
+      here = s .pre .0 .3;
+      most = bounds s .width .1;
+      times = s .pre .0 .2;
+      before = ok s .lengths .before;
+      drifts = ok s .lengths .drifts;
+      marks = ok s .lengths .marks;
+    }
+
+plain-requires : tie.Need-plain-requires Inv-loop μ-loop
+plain-requires c κs =
+    let z = sizes (c .before .before .before .before .before) in
+    (omega (arith, z .here, z .before), omega (arith, z .most, z .before), z .marks ∙ ap mark-bytes (sym (z .before)))
+
+-- one tile
+pulse-requires : tie.Need-pulse-requires Inv-loop μ-loop
+pulse-requires c κs = let s = start (c .before) in (s .pre .0 .0, s .pre .0 .1, omega (arith, sizes s .here))
+
+mul-times : tie.Need-mul-times Inv-loop μ-loop
+mul-times c = let z = sizes (start (c .before .before)) in omega (arith, z .here, z .most)
+
+slice-write-times : tie.Need-slice-write-times Inv-loop μ-loop
+slice-write-times c = let z = sizes (start (c .before .before)) in omega (arith, z .here, z .times)
+
+with-requires : tie.Need-with-requires Inv-loop μ-loop
+with-requires c κs = let z = sizes (start (c .before .before)) in omega (arith, z .here, z .most)
+
+same-length : tie.Need-same-length Inv-loop μ-loop
+same-length c = search needs
+
+returns : tie.Need-returns Inv-loop μ-loop
+returns c =
+    let p = c .before in
+    let s = start (p .before .before) in
+    let z = sizes s in
+    let a = s .args in
+    let w = c .with .ensures in
+    let f = pulse (a .settings) (a .before .now) (lent s) in (
+      subst (λ (n : ℕ). Filled f (a .times .now) (set (a .times .now) (a .done .next) (p .pulse .result)) (c .with .result .earliest) (c .with .result .latest) n) (sym (w .0))
+          (one-more (s .pre .1) (omega (arith, z .here, z .times)) (p .pulse .ensures) (w .1) (w .2)),
+      omega (arith, w .0),
+    )
+
+-- eight tiles
+loop-holds : tie.Need-loop-holds Inv-loop μ-loop
+loop-holds c = (start (c .before) .pre .1, omega arith, omega arith)
+
+add-if2 : tie.Need-add-if2 Inv-loop μ-loop
+add-if2 c = let z = sizes (start (c .before .before)) in omega (arith, z .here, z .most)
+
+abbrev begin : tie.Then2 Inv-loop μ-loop → tie.Start Inv-loop μ-loop
+begin c = start (c .before .before .before .before)
+
+stretch : (c : tie.Then2 Inv-loop μ-loop) → let a = begin c .args in Plain (length (a .before .now)) (a .marks .now) (a .done .next)
+stretch c =
+    let p = c .before .before .before .before in
+    p .plain .ensures (not-false (p .plain .result) (c .before .before .before .if1 .left))
+
+abbrev column : tie.Then2 Inv-loop μ-loop → ℕ
+column c = c .before .before .loop .«so-far» .next
+
+record In-row (c : tie.Then2 Inv-loop μ-loop) : Type 0 where
+  pub from : begin c .args .done .next ≤ column c
+  pub to : column c < begin c .args .done .next + 8
+  pub in-row : column c + 3 < begin c .args .settings .width
+  pub plain : Plain (begin c .args .settings .width) (begin c .args .marks .now) (begin c .args .done .next)
+
+in-row : (c : tie.Then2 Inv-loop μ-loop) → In-row c
+in-row c =
+    let i = c .before .before .loop .inv in
+    let a = begin c .args in
+    let z = sizes (begin c) in
+    let p = subst (λ (w : ℕ). Plain w (a .marks .now) (a .done .next)) (z .before) (stretch c) in
+    record { from = i .1; to = c .if2 .taken; in-row = omega (arith, c .if2 .taken, p .quiet .inside); plain = p }
+
+mul-correct : tie.Need-mul-correct Inv-loop μ-loop
+mul-correct c = let z = sizes (begin c) in omega (arith, in-row c .in-row, z .most)
+
+shared-slice-read-correct : tie.Need-shared-slice-read-correct Inv-loop μ-loop
+shared-slice-read-correct c = let z = sizes (begin (c .before)) in omega (arith, in-row (c .before) .in-row, z .drifts)
+
+cast-correct : tie.Need-cast-correct Inv-loop μ-loop
+cast-correct c = omega (arith, c .shared-slice-known5 .given (column (c .before)))
+
+correct-requires : tie.Need-correct-requires Inv-loop μ-loop
+unfolding call
+correct-requires c κs =
+    let t = c .before in
+    let s = begin t in
+    let i = in-row t in
+    plain-tile (ok s) (i .plain) (column t) (i .from) (i .to) (s .args .step) (s .pre .0 .1)
+
+mul-times-2 : tie.Need-mul-times-2 Inv-loop μ-loop
+mul-times-2 c = let t = c .before .before in omega (arith, in-row t .in-row, sizes (begin t) .most)
+
+slice-write-times-2 : tie.Need-slice-write-times-2 Inv-loop μ-loop
+slice-write-times-2 c =
+    let t = c .before .before in
+    omega (arith, in-row t .in-row, sizes (begin t) .times, t .before .before .loop .inv .0 .same)
+
+with-requires-2 : tie.Need-with-requires-2 Inv-loop μ-loop
+with-requires-2 c κs = let t = c .before .before in omega (arith, in-row t .in-row, sizes (begin t) .most)
+
+loop-less : tie.Need-loop-less Inv-loop μ-loop
+loop-less c = let t = c .before .before .before in omega (arith, in-row t .to, c .with2 .ensures .0)
+
+loop-again : tie.Need-loop-again Inv-loop μ-loop
+unfolding call
+loop-again c =
+    let p = c .before in
+    let t = p .before .before in
+    let l = t .before .before in
+    let s = begin t in
+    let a = s .args in
+    let i = in-row t in
+    let w = c .with2 .ensures in
+    let f = pulse (a .settings) (a .before .now) (lent s) in (
+      subst (λ (n : ℕ). Filled f (a .times .now) (set (l .loop .times) (column t) (p .correct .result)) (c .with2 .result .earliest) (c .with2 .result .latest) n) (sym (w .0))
+          (one-more (l .loop .inv .0) (omega (arith, i .in-row, sizes s .times))
+          (plain-pulse (ok s) (i .plain) (column t) (i .from) (i .to) (a .step) (s .pre .0 .1) (p .correct .ensures)) (w .1) (w .2)),
+      omega (arith, w .0, i .from),
+      omega (arith, w .0, i .to),
+    )
+
+same-length-2 : tie.Need-same-length-2 Inv-loop μ-loop
+same-length-2 c = c .before .before .loop .inv .0 .same
+
+returns-2 : tie.Need-returns-2 Inv-loop μ-loop
+returns-2 c =
+    let i = c .before .before .loop .inv in
+    (i .0, omega (arith, i .1, c .if2 .left))
+
+pub further-spec : {M : Type 1} → statement M
+further-spec =
+    tie.close
+    (tie.spec
+    Inv-loop
+    μ-loop
+    plain-requires
+    pulse-requires
+    mul-times
+    slice-write-times
+    with-requires
+    same-length
+    returns
+    loop-holds
+    add-if2
+    mul-correct
+    shared-slice-read-correct
+    cast-correct
+    correct-requires
+    mul-times-2
+    slice-write-times-2
+    with-requires-2
+    loop-less
+    loop-again
+    same-length-2
+    returns-2)
