@@ -2,9 +2,10 @@
 //!
 //! Each module renders one part of the document, in its order and words: settings, clocks, the
 //! forwarding rule, the tile, the wall's shape, the row, the seam, the wall file and its printing.
-//! All sums are made in 128-bit signed numbers, far from any overflow. `generate` is no part of
-//! the reference: it makes wall files to compare programs on.
+//! All sums are made in 128-bit signed numbers, far from any overflow. `generate` and `cases` are no part of
+//! the reference: they make wall files to compare programs on.
 
+pub mod cases;
 pub mod clock;
 pub mod file;
 pub mod generate;

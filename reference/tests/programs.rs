@@ -1,4 +1,4 @@
-//! The three programs as they are run.
+//! The programs as they are run.
 
 use std::fs::File;
 use std::io::Write;

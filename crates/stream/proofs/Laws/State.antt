@@ -1,0 +1,227 @@
+-- What makes ready for a step, and what a step leaves, from the contracts of what is called. Assumes nothing.
+use mathlib.Core.Path.{_≡_, refl, sym, _∙_, ap}
+use mathlib.Core.Bool.{Bool, true, false}
+use mathlib.Core.List.{List, _++_}
+use Prim.Native.Nat.{ℕ, _+_, _-_, _≤_, _<_, min}
+use native.Mathlib.Omega.{arith}
+use borrow.Author.Tests.{lt-ltb, le-ltb, ltb-true, ltb-false}
+use lib.Dec.{ltb}
+use lib.ListN.{length, take, drop, length-take, length-drop, length-append, drop-of-length-le}
+use lib.Seq.{take-take, take-all, take-add, drop-at, drop-drop, take-at, length-take-le}
+use Rattle.text.specs.Wrote.{Wrote}
+use Rattle.wall.specs.Step.{Stepped, step-of}
+use Rattle.wall.specs.Operation.{due-of, width-of, fits, went-to, Stepping}
+use Rattle.wall.specs.declared.Went.{Went}
+use Rattle.wall.specs.declared.Step.{Step}
+use Rattle.wall.specs.declared.Step.the-variants as step
+use Rattle.wall.proofs.Laws.Fit.{by-wall}
+use Rattle.stream.specs.Window.{Within, bytes-in, lacking, filled-up}
+use Rattle.stream.specs.Run.{steps-left}
+use Rattle.stream.specs.State.{Between, to-write, Made-ready, made-ready, taken-step, Advanced}
+use Rattle.stream.specs.declared.State.{State}
+use Rattle.stream.specs.declared.window.Window.{Window}
+use Rattle.stream.specs.declared.window.Filled.{Filled}
+use Rattle.stream.specs.declared.window.Filled.the-variants.{Ready}
+use Rattle.stream.specs.declared.Ended.the-variants.{ReadFailed, WriteFailed}
+use Rattle.stream.specs.declared.Turn.{Turn}
+use Rattle.stream.specs.declared.Turn.the-variants.{On, Stop}
+use Rattle.stream.proofs.Laws.Window.{filled-already}
+use Rattle.stream.proofs.Laws.Run.{Ahead, step-ahead, stands-fits}
+
+module _ (s : State) (before : List ℕ) (n due : ℕ) (due-is : due ≡ due-of (s .wall)) where
+  same-lack : {t : Bool} → lacking (s .window) due ≡ t → lacking (s .window) (due-of (s .wall)) ≡ t
+  same-lack e = ap (lacking (s .window)) (sym due-is) ∙ e
+
+  -- nothing is lacking, and there is room
+  pub at-once : Between s (length before) n → lacking (s .window) due ≡ false → s .text + 24640 ≤ n → made-ready s before n (On s) before
+  unfolding made-ready filled-up to-write
+  at-once b e i =
+      record {
+        wall = refl;
+        filled = filled-already (s .window) (due-of (s .wall)) before (b .within) (same-lack e);
+        idle = λ _. (refl, refl);
+        text = rw (same-lack e, le-ltb n (s .text + 24640) i);
+        room = i;
+      }
+
+  -- the text is to be written where something is lacking, or the room is too small
+  pub write-lacking : lacking (s .window) due ≡ true → to-write s n ≡ true
+  unfolding to-write
+  write-lacking e = rw (same-lack e)
+
+  pub write-full : lacking (s .window) due ≡ false → n < s .text + 24640 → to-write s n ≡ true
+  unfolding to-write
+  write-full e i = rw (same-lack e, lt-ltb n (s .text + 24640) i)
+
+  -- written, and then filled
+  pub written : (f : Filled) (w : Window) (after : List ℕ) → f ≡ Ready w → to-write s n ≡ true → 24640 ≤ n →
+      (lacking (s .window) due ≡ false → (f ≡ Ready (s .window)) × (after ≡ before)) →
+      filled-up (s .window) due before f after →
+      made-ready s before n (On (record { wall = s .wall; window = w; text = 0 })) after
+  unfolding made-ready filled-up
+  written f w after e t i idle up =
+      record {
+        wall = refl;
+        filled = rw due-is at (rw e at up);
+        idle = λ k. let q = idle (ap (lacking (s .window)) due-is ∙ k) in let same : w ≡ s .window = cc in (same, q .1);
+        text = rw t;
+        room = i;
+      }
+
+  pub not-written : (after : List ℕ) → made-ready s before n (Stop WriteFailed) after
+  unfolding made-ready
+  not-written after e = let z : _≡_ {A = ℕ} 0 1 = cc in omega arith
+
+  pub not-read : (after : List ℕ) → made-ready s before n (Stop ReadFailed) after
+  unfolding made-ready
+  not-read after e = let z : _≡_ {A = ℕ} 0 1 = cc in omega arith
+
+-- the due part of a part, or what there is of it
+take-both : (a b : ℕ) (xs : List ℕ) (t : Bool) → ltb b a ≡ t → take a (take b xs) ≡ take (min a b) xs
+take-both a b xs true e =
+    let more = ltb-true b a e in
+    let less : min a b ≡ b = omega arith in
+    let short : length (take b xs) ≤ a = simp length-take (omega arith) in
+    rw less (take-all a (take b xs) short)
+take-both a b xs false e =
+    let less : min a b ≡ a = omega (arith, ltb-false b a e) in
+    rw less (take-take a b xs (ltb-false b a e))
+
+-- and what is left of it
+drop-both : (a b : ℕ) (xs : List ℕ) (t : Bool) → ltb b a ≡ t → b ≤ length xs → drop a (take b xs) ≡ take (b - min a b) (drop (min a b) xs)
+drop-both a b xs true e i =
+    let more = ltb-true b a e in
+    let less : min a b ≡ b = omega arith in
+    let none : b - b ≡ 0 = omega arith in
+    let short : length (take b xs) ≤ a = simp length-take (omega arith) in
+    rw (less, none) (drop-of-length-le (take b xs) short)
+drop-both a b xs false e i =
+    let more = ltb-false b a e in
+    let less : min a b ≡ a = omega arith in
+    let sum : a + (b - a) ≡ b = omega arith in
+    let split : take b xs ≡ take a xs ++ take (b - a) (drop a xs) = rw sum at (take-add a (b - a) xs) in
+    rw (less, split) (drop-at (take a xs) (take (b - a) (drop a xs)) a (length-take-le a xs (omega arith)))
+
+module _ (w : Window) (due : ℕ) (input : List ℕ) (i : Within w (length input)) where
+  abbrev size : ℕ
+  size = w .end - w .start
+
+  abbrev stop : ℕ
+  stop = w .start + min due size
+
+  pub part-taken : take (stop - w .start) (drop (w .start) input) ≡ take due (bytes-in w input)
+  unfolding bytes-in
+  part-taken =
+      let count : stop - w .start ≡ min due size = omega arith in
+      rw count (sym (take-both due size (drop (w .start) input) (ltb size due) refl))
+
+  abbrev left : Window
+  left = record { start = stop; end = w .end; ended = w .ended }
+
+  pub rest-left : bytes-in left input ≡ drop due (bytes-in w input)
+  unfolding bytes-in
+  rest-left =
+      let long : size ≤ length (drop (w .start) input) = simp length-drop (omega (arith, i .ordered, i .inside)) in
+      let count : w .end - stop ≡ size - min due size = omega (arith, i .ordered) in
+      rw (count, sym (drop-drop (min due size) (w .start) input)) (sym (drop-both due size (drop (w .start) input) (ltb size due) refl long))
+
+  pub left-within : Within left (length input)
+  left-within = record { ordered = omega (arith, i .ordered); inside = i .inside }
+
+-- a step that is taken: `part` is what is handed to it, `lent` the wall's row
+module _ (s : State) (input times held part lent : List ℕ) (b : Between s (length input) (length held)) (room : s .text + 24640 ≤ length held)
+    (part-is : part ≡ take (due-of (s .wall)) (bytes-in (s .window) input)) (lent-is : lent ≡ take (width-of (s .wall)) times)
+    (wide : width-of (s .wall) ≤ length times) where
+  fit : fits (s .wall) (length lent) (length held) (s .text) ≡ true
+  fit =
+      let long : length lent ≡ width-of (s .wall) = rw lent-is (length-take-le (width-of (s .wall)) times wide) in
+      by-wall (s .wall) (length lent) (length held) (s .text) room ∙ rw long (stands-fits (s .wall) (b .stands))
+
+  -- it always fits
+  pub fitting : (lent-after out : List ℕ) → Stepping (s .wall) part lent held (s .text) step.Unfit lent-after out → ⊥
+  fitting lent-after out d =
+      let answered : step.Unfit ≡ step.Went (went-to (step-of (s .wall) lent part) (s .text)) = rw fit at (d .answered) in
+      let z : _≡_ {A = ℕ} 0 1 = cc in omega arith
+
+  stepped-on : (w : Went) (lent-after out : List ℕ) → Stepping (s .wall) part lent held (s .text) (step.Went w) lent-after out →
+      length lent-after ≡ length lent →
+      Advanced s input times held
+      (record { wall = w .wall; window = left (s .window) (due-of (s .wall)) input (b .within); text = w .end }) (lent-after ++ drop (width-of (s .wall)) times) out
+  unfolding taken-step went-to
+  stepped-on w lent-after out d long =
+      let o = step-of (s .wall) lent part in
+      let answered : step.Went w ≡ step.Went (went-to o (s .text)) = rw fit at (d .answered) in
+      let made : w ≡ went-to o (s .text) = cc in
+      let same : step-of (s .wall) (take (width-of (s .wall)) times) (take (due-of (s .wall)) (bytes-in (s .window) input)) ≡ o = rw (part-is, lent-is) refl in
+      let size : length lent-after ≡ width-of (s .wall) = long ∙ rw lent-is (length-take-le (width-of (s .wall)) times wide) in
+      record {
+        next = ap (λ (x : Went). x .wall) made ∙ ap (λ (x : Stepped). x .next) (sym same);
+        within = left-within (s .window) (due-of (s .wall)) input (b .within);
+        rest = rest-left (s .window) (due-of (s .wall)) input (b .within);
+        flag = refl;
+        row = take-at lent-after (drop (width-of (s .wall)) times) (width-of (s .wall)) size ∙ rw fit at (d .row-left) ∙ ap (λ (x : Stepped). x .row) (sym same);
+        text = rw (same, ap (λ (x : Went). x .end) made) (d .text fit);
+      }
+
+-- the same, of what the calls answered: the due size, where the part ends and the width
+module _ (s : State) (input times held : List ℕ) (b : Between s (length input) (length held)) (room : s .text + 24640 ≤ length held)
+    (due stop width : ℕ) (due-is : due ≡ due-of (s .wall)) (stop-is : stop ≡ s .window .start + min due (s .window .end - s .window .start))
+    (width-is : width ≡ width-of (s .wall)) (wide : width ≤ length times) where
+  abbrev handed : List ℕ
+  handed = take (stop - s .window .start) (drop (s .window .start) input)
+
+  handed-due : handed ≡ take (due-of (s .wall)) (bytes-in (s .window) input)
+  handed-due = rw (stop-is, due-is) (part-taken (s .window) (due-of (s .wall)) input (b .within))
+
+  lent-row : take width times ≡ take (width-of (s .wall)) times
+  lent-row = rw width-is
+
+  wide-row : width-of (s .wall) ≤ length times
+  wide-row = rw width-is at wide
+
+  pub never-unfit : (answer : Step) (lent-after out : List ℕ) → Stepping (s .wall) handed (take width times) held (s .text) answer lent-after out →
+      answer ≡ step.Unfit → ⊥
+  never-unfit answer lent-after out d e =
+      fitting s input times held handed (take width times) b room handed-due lent-row wide-row lent-after out (rw e at d)
+
+  pub advanced : (answer : Step) (w : Went) (lent-after out : List ℕ) →
+      Stepping (s .wall) handed (take width times) held (s .text) answer lent-after out → answer ≡ step.Went w →
+      length lent-after ≡ length (take width times) →
+      Advanced s input times held
+      (record { wall = w .wall; window = record { start = stop; end = s .window .end; ended = s .window .ended }; text = w .end })
+      (lent-after ++ drop width times) out
+  advanced answer w lent-after out d e long =
+      let on = stepped-on s input times held handed (take width times) b room handed-due lent-row wide-row w lent-after out (rw e at d) long in
+      rw (stop-is, due-is, width-is) on
+
+-- text that is written lies within the buffer
+wrote-within : (before : List ℕ) (at : ℕ) (text after : List ℕ) (end : ℕ) → at ≤ length before → Wrote before at text after end → end ≤ length after
+wrote-within before at text after end i w =
+    let long : min end (length after) ≡ min at (length before) + length text = simp (length-take, length-append) at (ap length (w .holds)) in
+    omega (arith, w .goes)
+
+pub ready-on : (s : State) (before : List ℕ) (n : ℕ) (t : Turn) (r : State) (after : List ℕ) → t ≡ On r → made-ready s before n t after →
+    Made-ready s before n r after
+unfolding made-ready
+ready-on s before n t r after e m = rw e at m
+
+pub ready-between : (s : State) (before : List ℕ) (n : ℕ) (r : State) (after : List ℕ) → Between s (length before) n → Made-ready s before n r after →
+    Between r (length after) n
+ready-between s before n r after b m =
+    record { stands = rw (m .wall) (b .stands); within = m .filled .within; text = omega (arith, m .room) }
+
+-- a turn: made ready, and then a step
+module _ (s : State) (before : List ℕ) (n : ℕ) (m : State) (input times held : List ℕ) (r : State) (times-after output : List ℕ)
+    (b : Between s (length before) n) (some : due-of (s .wall) ≡ 0 → ⊥) (made : Made-ready s before n m input) (long : length held ≡ n)
+    (went : Advanced m input times held r times-after output) where
+  pub turn-ahead : Ahead (r .wall) (steps-left (s .wall))
+  unfolding taken-step
+  turn-ahead = rw (went .next, made .wall) (step-ahead (s .wall) _ _ (b .stands) some)
+
+  pub turn-between : Between r (length input) (length output)
+  turn-between =
+      record {
+        stands = turn-ahead .stands;
+        within = went .within;
+        text = wrote-within held (m .text) _ output (r .text) (omega (arith, made .room)) (went .text);
+      }

@@ -1,0 +1,4 @@
+pub mod Window
+pub mod Run
+pub mod State
+pub mod Promises

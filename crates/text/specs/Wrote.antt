@@ -1,0 +1,11 @@
+-- What it means to write text into a lent buffer. Assumes nothing.
+use mathlib.Core.Path.{_≡_}
+use mathlib.Core.List.{List, _++_}
+use Prim.Native.Nat.{ℕ, _+_}
+use lib.ListN.{length, take}
+
+-- from place `at` on the buffer holds the text, which ends at `end`; what stood before it is as it was
+pub record Wrote (before : List ℕ) (at : ℕ) (text : List ℕ) (after : List ℕ) (end : ℕ) : Type 0 where
+  pub as-long : length after ≡ length before
+  pub goes : end ≡ at + length text
+  pub holds : take end after ≡ take at before ++ text

@@ -1,0 +1,82 @@
+-- What fits a wall, test by test, and what is known where it fits. Assumes nothing.
+use mathlib.Core.Path.{_≡_, refl, sym}
+use mathlib.Core.Bool.{Bool, true, false, _&&_, true≢false}
+use Prim.Native.Nat.{ℕ, _+_, _*_, _≤_, _<_}
+use lib.Dec.{eqb, leb}
+use borrow.Author.Tests.{eq-eqb, ne-eqb, eqb-true, le-leb, lt-leb, leb-true}
+use Rattle.rule.specs.Settings.{settings-refusal}
+use Rattle.wall.specs.Contents.{row-size}
+use Rattle.wall.specs.Step.{due-size}
+use Rattle.wall.specs.Operation.{passes, due-of, place-fits, wall-fits, fits}
+use Rattle.wall.specs.declared.Place.{Place}
+use Rattle.wall.specs.declared.Wall.{Wall}
+use Rattle.wall.specs.declared.Wall.the-variants.{Start, Row}
+
+both : (a b : Bool) → (a && b) ≡ true → (a ≡ true) × (b ≡ true)
+both true b e = (refl, e)
+both false b e = absurd (true≢false (sym e))
+
+module _ (x : Wall) (n room at : ℕ) where
+  pub no-room : room < at + 24640 → fits x n room at ≡ false
+  unfolding fits
+  no-room i = rw (lt-leb (at + 24640) room i)
+
+  pub by-wall : at + 24640 ≤ room → fits x n room at ≡ wall-fits x n
+  unfolding fits
+  by-wall i = rw (le-leb (at + 24640) room i)
+
+  pub fits-all : fits x n room at ≡ true → (at + 24640 ≤ room) × (wall-fits x n ≡ true)
+  unfolding fits
+  fits-all e = let b = both (leb (at + 24640) room) (wall-fits x n) e in (leb-true (at + 24640) room (b .0), b .1)
+
+module _ (p : Place) (n : ℕ) where
+  pub not-passed : (settings-refusal (p .settings) ≡ 0 → ⊥) → place-fits p n ≡ false
+  unfolding place-fits passes
+  not-passed k = rw (ne-eqb (settings-refusal (p .settings)) 0 k)
+
+  module _ (pass : settings-refusal (p .settings) ≡ 0) where
+    pub other-length : (n ≡ p .settings .width → ⊥) → place-fits p n ≡ false
+    unfolding place-fits passes
+    other-length k = rw (eq-eqb (settings-refusal (p .settings)) 0 pass, ne-eqb n (p .settings .width) k)
+
+    module _ (long : n ≡ p .settings .width) where
+      pub past-rows : p .settings .rows < p .row → place-fits p n ≡ false
+      unfolding place-fits passes
+      past-rows i =
+          rw (eq-eqb (settings-refusal (p .settings)) 0 pass, eq-eqb n (p .settings .width) long, lt-leb (p .row) (p .settings .rows) i)
+
+      pub by-offset : p .row ≤ p .settings .rows → place-fits p n ≡ leb (p .offset) 4294967295
+      unfolding place-fits passes
+      by-offset i =
+          rw (eq-eqb (settings-refusal (p .settings)) 0 pass, eq-eqb n (p .settings .width) long, le-leb (p .row) (p .settings .rows) i)
+
+-- a place that fits
+pub record Fit (p : Place) (n : ℕ) : Type 0 where
+  pub pass : settings-refusal (p .settings) ≡ 0
+  pub long : n ≡ p .settings .width
+  pub row : p .row ≤ p .settings .rows
+  pub offset : p .offset ≤ 4294967295
+
+pub fit-of : (p : Place) (n : ℕ) → place-fits p n ≡ true → Fit p n
+unfolding place-fits passes
+fit-of p n e =
+    let a = both (eqb (settings-refusal (p .settings)) 0) _ e in
+    let b = both (eqb n (p .settings .width)) _ (a .1) in
+    let c = both (leb (p .row) (p .settings .rows)) _ (b .1) in
+    record {
+      pass = eqb-true (settings-refusal (p .settings)) 0 (a .0);
+      long = eqb-true n (p .settings .width) (b .0);
+      row = leb-true (p .row) (p .settings .rows) (c .0);
+      offset = leb-true (p .offset) 4294967295 (c .1);
+    }
+
+-- what is due, by the settings
+module _ (p : Place) where
+  pub none-due : (settings-refusal (p .settings) ≡ 0 → ⊥) → (due-of (Start p) ≡ 0) × (due-of (Row p) ≡ 0)
+  unfolding due-of passes
+  none-due k = (rw (ne-eqb (settings-refusal (p .settings)) 0 k), rw (ne-eqb (settings-refusal (p .settings)) 0 k))
+
+  pub all-due : settings-refusal (p .settings) ≡ 0 →
+      (due-of (Start p) ≡ 3 + 8 * p .settings .width) × (due-of (Row p) ≡ row-size (p .settings .width))
+  unfolding due-of passes due-size
+  all-due e = (rw (eq-eqb (settings-refusal (p .settings)) 0 e), rw (eq-eqb (settings-refusal (p .settings)) 0 e))

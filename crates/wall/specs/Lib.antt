@@ -1,0 +1,9 @@
+pub mod Bytes
+pub mod Field
+pub mod Contents
+pub mod File
+pub mod Step
+pub mod Operation
+pub mod Program
+pub mod Limits
+pub mod Promises
