@@ -1,0 +1,50 @@
+-- How far one broken tile reaches: the widest gap of its row, and its reach in a later row in ticks and in columns.
+-- Assumes nothing.
+use mathlib.Core.Path.{_≡_}
+use mathlib.Core.Bool.{Bool, cond, not, _||_}
+use mathlib.Core.List.{List}
+use Prim.Native.Nat.{ℕ, _+_, _-_, _*_, _≤_, _<_}
+use lib.Dec.{eqb, ltb}
+use lib.ListN.{length, getD}
+use Rattle.rule.specs.Settings.{settings-refusal}
+use Rattle.rule.specs.declared.settings.Settings.{Settings}
+use Rattle.row.specs.Call.{Call}
+use Rattle.row.specs.Run.{taken, rows, row-at}
+use Rattle.row.specs.Reach.{Alike, apart, widest-gap}
+use Rattle.reach.specs.Span.{first-within, last-within}
+use Rattle.reach.specs.declared.Gap.{Gap}
+use Rattle.reach.specs.declared.Gap.the-variants as gap
+use Rattle.reach.specs.declared.Reached.{Reached}
+use Rattle.reach.specs.declared.Reached.the-variants as reached
+
+-- B of a row, or 1 to 9, 21
+unfoldable pub gap-of : Settings → (row : List ℕ) → Gap
+gap-of s ts =
+    cond (not (eqb (settings-refusal s) 0)) (gap.Refused (settings-refusal s))
+    (cond (not (eqb (length ts) (s .width))) (gap.Refused 21) (gap.Widest (widest-gap (s .width) ts)))
+
+-- "2B + 8h + (L - f - 1)", n rows after the broken tile's
+unfoldable pub reach-ticks : Settings → (gap rows : ℕ) → ℕ
+reach-ticks s b n = 2 * b + 8 * s .unit + (n - 1)
+
+-- no later row of the wall, no column of it, or a gap over 2^41 - 1
+unfoldable pub outside-wall : Settings → (gap rows column : ℕ) → Bool
+outside-wall s b n k = (eqb n 0 || ltb (s .rows) n) || (not (ltb k (s .width)) || ltb 2199023255551 b)
+
+unfoldable pub reach-of : Settings → (gap rows column : ℕ) → Reached
+reach-of s b n k =
+    cond (not (eqb (settings-refusal s) 0)) (reached.Refused (settings-refusal s))
+    (cond (outside-wall s b n k) reached.Outside
+    (reached.Within (record { ticks = reach-ticks s b n; first = first-within (s .width) k n; last = last-within (s .width) k n })))
+
+-- demand 3 in the words of the answer: with B of row f, the pulses of row f + n differ in the columns from the first to the last
+-- alone, and by at most so many ticks
+unfoldable pub Search-range : Type 0
+Search-range =
+    (s : Settings) (ts : List ℕ) (xs ys : List Call) (f k n c : ℕ) → settings-refusal s ≡ 0 → length ts ≡ s .width → k < s .width →
+    length (rows s xs ts) ≡ s .rows → length (rows s ys ts) ≡ s .rows → f < s .rows → Alike (s .width) f k (taken s xs ts) (taken s ys ts) →
+    0 < n → f + n ≤ s .rows → c < s .width →
+    let here = getD (row-at ts (rows s xs ts) (f + n)) c 0 in
+    let there = getD (row-at ts (rows s ys ts) (f + n)) c 0 in
+    (c < first-within (s .width) k n → here ≡ there) × (last-within (s .width) k n < c → here ≡ there)
+    × (apart here there ≤ reach-ticks s (widest-gap (s .width) (row-at ts (rows s xs ts) f)) n)

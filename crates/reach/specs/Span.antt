@@ -1,0 +1,22 @@
+-- The columns that a broken tile can reach: those within so many hops of its own, from the first to the last.
+-- Assumes nothing.
+use mathlib.Core.Bool.{cond}
+use Prim.Native.Nat.{ℕ, _+_, _-_, _≤_, _<_, min}
+use lib.Dec.{eqb, ltb}
+use Rattle.row.specs.Columns.{Within}
+
+-- an end column has its next but one beside it, so it reaches as far as the column next to it; near the other end the last two
+-- columns are reached together
+unfoldable pub first-within : (w k n : ℕ) → ℕ
+first-within w k n = cond (eqb n 0) k (cond (ltb (min k (w - 2)) (n + 2)) 0 (min k (w - 2) - n))
+
+unfoldable pub last-within : (w k n : ℕ) → ℕ
+last-within w k n = w - 1 - first-within w (w - 1 - k) n
+
+-- the columns within n hops are those from the first to the last
+pub record Spanned (w n k c : ℕ) : Type 0 where
+  pub reached : Within w n k c → (first-within w k n ≤ c) × (c ≤ last-within w k n)
+  pub within : first-within w k n ≤ c → c ≤ last-within w k n → Within w n k c
+
+unfoldable pub Span-right : Type 0
+Span-right = (w n k c : ℕ) → 6 ≤ w → k < w → c < w → Spanned w n k c
