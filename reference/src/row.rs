@@ -165,7 +165,7 @@ fn arrival(lent: &Lent, sender: usize, value: u64) -> Option<Tick> {
 #[cfg(test)]
 mod tests {
     use super::*;
-    use crate::settings::tests::PRINTED;
+    use crate::cases::build::PRINTED;
     use crate::settings::Numbers;
 
     const W: usize = 11;

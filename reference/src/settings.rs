@@ -117,19 +117,9 @@ impl Settings {
 }
 
 #[cfg(test)]
-pub(crate) mod tests {
+mod tests {
     use super::*;
-
-    /// The settings of the wall that document 01 prints whole.
-    pub(crate) const PRINTED: Numbers = Numbers {
-        columns: 6,
-        rows: 1,
-        delay: 100,
-        uncertainty: 10,
-        hold: 400,
-        drift_limit: 0,
-        unit: 12,
-    };
+    use crate::cases::build::PRINTED;
 
     fn number(numbers: Numbers) -> u8 {
         Settings::new(numbers).map_or_else(|refused| refused.0, |_| 0)

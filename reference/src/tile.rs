@@ -30,7 +30,7 @@ pub fn tile(settings: &Settings, stamps: &Stamps) -> Result<Answer, Refused> {
 #[cfg(test)]
 mod tests {
     use super::*;
-    use crate::settings::tests::PRINTED;
+    use crate::cases::build::PRINTED;
     use crate::settings::Numbers;
 
     fn settings() -> Settings {

@@ -7,6 +7,7 @@ use Prim.Native.Nat.{ℕ, _+_, _-_, _*_, _≤_, _<_}
 use lib.Dec.{eqb, ltb}
 use lib.ListN.{length, getD}
 use Rattle.rule.specs.Settings.{settings-refusal}
+use Rattle.rule.specs.Tile.{latest-stamp}
 use Rattle.rule.specs.declared.settings.Settings.{Settings}
 use Rattle.row.specs.Call.{Call}
 use Rattle.row.specs.Run.{taken, rows, row-at}
@@ -29,7 +30,7 @@ reach-ticks s b n = 2 * b + 8 * s .unit + (n - 1)
 
 -- no later row of the wall, no column of it, or a gap over 2^41 - 1
 unfoldable pub outside-wall : Settings → (gap rows column : ℕ) → Bool
-outside-wall s b n k = (eqb n 0 || ltb (s .rows) n) || (not (ltb k (s .width)) || ltb 2199023255551 b)
+outside-wall s b n k = (eqb n 0 || ltb (s .rows) n) || (not (ltb k (s .width)) || ltb latest-stamp b)
 
 unfoldable pub reach-of : Settings → (gap rows column : ℕ) → Reached
 reach-of s b n k =

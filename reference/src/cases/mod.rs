@@ -1,7 +1,7 @@
 //! Named wall files, the same each time, for a program to be run on: every number that a file can be
 //! refused with, each place where a file can end, the limits, and faults at the edges.
 
-mod build;
+pub(crate) mod build;
 mod contents;
 mod faults;
 mod framing;

@@ -5,6 +5,7 @@ use Prim.Native.Nat.{ℕ, _≤_, _<_}
 use lib.Dec.{ltb}
 use native.Mathlib.Omega.{arith}
 use borrow.Author.Tests.{eq-eqb, ne-eqb, lt-ltb, le-ltb, ltb-false}
+use Rattle.rule.specs.Tile.{latest-stamp}
 use Rattle.rule.specs.declared.settings.Settings.{Settings}
 use Rattle.rule.proofs.Laws.Cases.{by-equal, by-order}
 use Rattle.reach.specs.Search.{outside-wall}
@@ -23,7 +24,7 @@ module _ (s : Settings) (b n k : ℕ) where
     unfolding outside-wall
     no-column j = rw (ne-eqb n 0 e, le-ltb (s .rows) n i, le-ltb k (s .width) j)
 
-    pub by-gap : k < s .width → outside-wall s b n k ≡ ltb 2199023255551 b
+    pub by-gap : k < s .width → outside-wall s b n k ≡ ltb latest-stamp b
     unfolding outside-wall
     by-gap j = rw (ne-eqb n 0 e, le-ltb (s .rows) n i, lt-ltb k (s .width) j)
 
@@ -31,7 +32,7 @@ module _ (s : Settings) (b n k : ℕ) where
     pub some : 0 < n
     pub rows : n ≤ s .rows
     pub column : k < s .width
-    pub gap : b ≤ 2199023255551
+    pub gap : b ≤ latest-stamp
 
   pub in-wall : outside-wall s b n k ≡ false → Inside
   in-wall e =
@@ -40,5 +41,5 @@ module _ (s : Settings) (b n k : ℕ) where
       (λ z. by-order n (s .rows)
       (λ i. by-order (s .width) k
       (λ j. absurd (true≢false (sym (no-column z i j) ∙ e)))
-      (λ j. record { some = omega arith; rows = i; column = j; gap = ltb-false 2199023255551 b (sym (by-gap z i j) ∙ e) }))
+      (λ j. record { some = omega arith; rows = i; column = j; gap = ltb-false latest-stamp b (sym (by-gap z i j) ∙ e) }))
       (λ i. absurd (true≢false (sym (past-rows z i) ∙ e))))
