@@ -19,10 +19,10 @@ use Rattle.wall.specs.declared.Wall.the-variants.{New, Start, Row, End, Over}
 use Rattle.wall.proofs.Promises.{steps-right}
 use Rattle.stream.specs.Window.{Within, bytes-in, lacking}
 use Rattle.stream.specs.declared.window.Window.{Window}
-use Rattle.stream.specs.Run.{Stands}
+use Rattle.wall.specs.Stands.{Stands}
 use Rattle.stream.specs.State.{taken-step}
 use Rattle.stream.specs.Promises.{taken, Runs, over, reads, steps, Run-right, Turn-right}
-use Rattle.stream.proofs.Laws.Run.{step-stands, due-right}
+use Rattle.wall.proofs.Laws.Stands.{step-stands, due-right}
 
 -- once the file is over, nothing more is shown
 nothing-more : (n : ℕ) (ts bs : List ℕ) → steps-shown n Over ts bs ≡ []

@@ -1,4 +1,3 @@
 pub mod Window
-pub mod Run
 pub mod State
 pub mod Promises

@@ -8,9 +8,9 @@ use lib.ListN.{length, take, drop}
 use Rattle.text.specs.Wrote.{Wrote}
 use Rattle.wall.specs.File.{texts-of}
 use Rattle.wall.specs.Step.{Stepped, step-of}
-use Rattle.wall.specs.Operation.{due-of, width-of}
+use Rattle.wall.specs.Operation.{due-of, width-of, step-room}
 use Rattle.stream.specs.Window.{Within, bytes-in, lacking, Filled-up}
-use Rattle.stream.specs.Run.{Stands}
+use Rattle.wall.specs.Stands.{Stands}
 use Rattle.stream.specs.declared.State.{State}
 use Rattle.stream.specs.declared.Ended.the-variants.{Done}
 use Rattle.stream.specs.declared.Turn.{Turn}
@@ -24,7 +24,7 @@ pub record Between (s : State) (input output : ℕ) : Type 0 where
 
 -- the text is written, whole, where a read is to come or the room would be too small
 unfoldable pub to-write : State → (output : ℕ) → Bool
-to-write s n = lacking (s .window) (due-of (s .wall)) || ltb n (s .text + 24640)
+to-write s n = lacking (s .window) (due-of (s .wall)) || ltb n (s .text + step-room)
 
 -- made ready for a step: the due part is in the window or the input has ended, and there is room for the step's text
 pub record Made-ready (s : State) (before : List ℕ) (output : ℕ) (r : State) (after : List ℕ) : Type 0 where
@@ -32,7 +32,7 @@ pub record Made-ready (s : State) (before : List ℕ) (output : ℕ) (r : State)
   pub filled : Filled-up (s .window) (due-of (s .wall)) before (r .window) after
   pub idle : lacking (s .window) (due-of (s .wall)) ≡ false → (r .window ≡ s .window) × (after ≡ before)
   pub text : r .text ≡ cond (to-write s output) 0 (s .text)
-  pub room : r .text + 24640 ≤ output
+  pub room : r .text + step-room ≤ output
 
 -- or stopped, which is not the end of a file
 unfoldable pub made-ready : State → (before : List ℕ) → (output : ℕ) → Turn → (after : List ℕ) → Type 0

@@ -13,7 +13,7 @@ ghost use mathlib.Core.Path.{_≡_};
 ghost use Prim.Native.Nat.{_+_, _≤_};
 ghost use lib.ListN.{length};
 ghost use Rattle.text.specs.Word.{Tables};
-ghost use Rattle.wall.specs.Operation.{due-of};
+ghost use Rattle.wall.specs.Operation.{due-of, step-room};
 ghost use Rattle.wall.specs.declared.Wall.the-variants.{Over};
 ghost use Rattle.stream.specs.State.{Between, made-ready, Advanced};
 
@@ -70,7 +70,7 @@ fn run_in(
     row: &mut [u64],
     output: &mut [u8],
 ) -> Ended
-    requires { ⌜ Tables (now tables) × (6710 ≤ length (now input)) × (256 ≤ length (now row)) × (24640 ≤ length (now output)) ⌝ }
+    requires { ⌜ Tables (now tables) × (6710 ≤ length (now input)) × (256 ≤ length (now row)) × (step-room ≤ length (now output)) ⌝ }
 {
     let mut state = State {
         wall: Wall::New,
@@ -109,7 +109,7 @@ fn finish(to: i32, state: State, output: &[u8]) -> Ended
 // Has the due part in the window, and room for its text. Text is written where a read is to come, so that no row
 // waits for input that it does not need, and where the room is too small.
 fn ready(from: i32, to: i32, state: State, input: &mut [u8], output: &[u8]) -> Turn
-    requires { ⌜ Between state (length (now input)) (length (now output)) × (6710 ≤ length (now input)) × (24640 ≤ length (now output)) ⌝ }
+    requires { ⌜ Between state (length (now input)) (length (now output)) × (6710 ≤ length (now input)) × (step-room ≤ length (now output)) ⌝ }
     ensures { λ r. ⌜ made-ready state (now (input .entry)) (length (now (output .entry))) r (now (input .exit)) ⌝ }
 {
     let due = state.due();
@@ -138,7 +138,7 @@ fn ready(from: i32, to: i32, state: State, input: &mut [u8], output: &[u8]) -> T
 
 // Takes the step of the due part, or of what is left where the input has ended.
 fn advance(tables: &[u64], state: State, input: &[u8], row: &mut [u64], output: &mut [u8]) -> State
-    requires { ⌜ Tables (now tables) × Between state (length (now input)) (length (now output)) × (256 ≤ length (now row)) × (state .text + 24640 ≤ length (now output)) ⌝ }
+    requires { ⌜ Tables (now tables) × Between state (length (now input)) (length (now output)) × (256 ≤ length (now row)) × (state .text + step-room ≤ length (now output)) ⌝ }
     ensures { λ r. ⌜ Advanced state (now (input .entry)) (now (row .entry)) (now (output .entry)) r (now (row .exit)) (now (output .exit)) ⌝ }
 {
     let wall = state.wall;

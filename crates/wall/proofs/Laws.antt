@@ -13,5 +13,6 @@ pub mod Fit
 pub mod Left
 pub mod Worked
 pub mod Stepping
+pub mod Stands
 pub mod Reached
 pub mod Calls

@@ -52,9 +52,13 @@ wall-fits (Row p) n = place-fits p n
 wall-fits (End p) n = place-fits p n
 wall-fits Over n = true
 
--- and the buffer has room for the text of any step
+-- room for the text of any step: the lines of a row of 256 tiles
+abbrev pub step-room : ℕ
+step-room = 24640
+
+-- and the buffer has room for the text
 unfoldable pub fits : Wall → (row room at : ℕ) → Bool
-fits x n room at = leb (at + 24640) room && wall-fits x n
+fits x n room at = leb (at + step-room) room && wall-fits x n
 
 -- a step's wall, and its text in the buffer from `at` on
 pub record Left (o : Stepped) (held : List ℕ) (at : ℕ) (went : Went) (out : List ℕ) : Type 0 where

@@ -17,7 +17,7 @@ ghost use Rattle.text.specs.Word.{Tables};
 ghost use Rattle.wall.specs.Field.{field-refusal};
 ghost use Rattle.wall.specs.Contents.{row-size};
 ghost use Rattle.wall.specs.Step.{row-step, after-row};
-ghost use Rattle.wall.specs.Operation.{place-fits, Left, Plannable, Worked-out};
+ghost use Rattle.wall.specs.Operation.{place-fits, Left, Plannable, Worked-out, step-room};
 
 pub fn row(
     tables: &[u64],
@@ -27,7 +27,7 @@ pub fn row(
     out: &mut [u8],
     at: usize,
 ) -> Went
-    requires { ⌜ Tables (now tables) × (place-fits place (length (now row)) ≡ true) × (at + 24640 ≤ length (now out)) ⌝ }
+    requires { ⌜ Tables (now tables) × (place-fits place (length (now row)) ≡ true) × (at + step-room ≤ length (now out)) ⌝ }
     ensures left { λ r. ⌜ Left (row-step (place .settings) (place .row) (place .offset) (now (row .entry)) (now (part .entry))) (now (out .entry)) at r (now (out .exit)) ⌝ }
     ensures row { λ r. ⌜ now (row .exit) ≡ row-step (place .settings) (place .row) (place .offset) (now (row .entry)) (now (part .entry)) .row ⌝ }
 {
@@ -50,7 +50,7 @@ fn row_in(
     out: &mut [u8],
     at: usize,
 ) -> Went
-    requires { ⌜ Tables (now tables) × (place-fits place (length (now row)) ≡ true) × (at + 24640 ≤ length (now out)) ⌝ }
+    requires { ⌜ Tables (now tables) × (place-fits place (length (now row)) ≡ true) × (at + step-room ≤ length (now out)) ⌝ }
     requires { ⌜ (field-refusal 3 (mark-bytes (place .settings .width)) (now part) ≡ 0) × (length (now times) ≡ length (now row)) ⌝ }
     ensures left { λ r. ⌜ Left (row-step (place .settings) (place .row) (place .offset) (now (row .entry)) (now (part .entry))) (now (out .entry)) at r (now (out .exit)) ⌝ }
     ensures row { λ r. ⌜ now (row .exit) ≡ row-step (place .settings) (place .row) (place .offset) (now (row .entry)) (now (part .entry)) .row ⌝ }

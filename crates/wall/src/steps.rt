@@ -15,10 +15,10 @@ ghost use Rattle.text.specs.Word.{Tables};
 ghost use Rattle.text.specs.Wrote.{Wrote};
 ghost use Rattle.wall.specs.File.{start-number, row-shown, texts-of};
 ghost use Rattle.wall.specs.Step.{away, settings-step, start-step, end-step};
-ghost use Rattle.wall.specs.Operation.{place-fits, Left};
+ghost use Rattle.wall.specs.Operation.{place-fits, Left, step-room};
 
 pub fn settings(part: &[u8], out: &mut [u8], at: usize) -> Went
-    requires { ⌜ at + 24640 ≤ length (now out) ⌝ }
+    requires { ⌜ at + step-room ≤ length (now out) ⌝ }
     ensures { λ r. ⌜ ((row : List ℕ) → Left (settings-step row (now (part .entry))) (now (out .entry)) at r (now (out .exit))) ⌝ }
 {
     let number = field::refusal(1, 24, part);
@@ -40,7 +40,7 @@ pub fn settings(part: &[u8], out: &mut [u8], at: usize) -> Went
 }
 
 pub fn start(place: Place, part: &[u8], row: &mut [u64], out: &mut [u8], at: usize) -> Went
-    requires { ⌜ (place-fits place (length (now row)) ≡ true) × (at + 24640 ≤ length (now out)) ⌝ }
+    requires { ⌜ (place-fits place (length (now row)) ≡ true) × (at + step-room ≤ length (now out)) ⌝ }
     ensures left { λ r. ⌜ Left (start-step (place .settings) (place .offset) (now (row .entry)) (now (part .entry))) (now (out .entry)) at r (now (out .exit)) ⌝ }
     ensures row { λ r. ⌜ now (row .exit) ≡ start-step (place .settings) (place .offset) (now (row .entry)) (now (part .entry)) .row ⌝ }
 {
@@ -85,7 +85,7 @@ pub fn end(
     out: &mut [u8],
     at: usize,
 ) -> Went
-    requires { ⌜ Tables (now tables) × (place-fits place (length (now row)) ≡ true) × (at + 24640 ≤ length (now out)) ⌝ }
+    requires { ⌜ Tables (now tables) × (place-fits place (length (now row)) ≡ true) × (at + step-room ≤ length (now out)) ⌝ }
     ensures { λ r. ⌜ Left (end-step (place .settings) (place .row) (place .offset) (now (row .entry)) (now (part .entry))) (now (out .entry)) at r (now (out .exit)) ⌝ }
 {
     if part.len() != 0 {
@@ -109,7 +109,7 @@ pub fn lines(
     out: &mut [u8],
     at: usize,
 ) -> usize
-    requires { ⌜ Tables (now tables) × (place-fits place (length (now row)) ≡ true) × (length (now marks) ≡ mark-bytes (length (now row))) × (at + 24640 ≤ length (now out)) ⌝ }
+    requires { ⌜ Tables (now tables) × (place-fits place (length (now row)) ≡ true) × (length (now marks) ≡ mark-bytes (length (now row))) × (at + step-room ≤ length (now out)) ⌝ }
     ensures { λ r. ⌜ Wrote (now (out .entry)) at (texts-of (row-shown (place .settings) (place .row) (now (marks .entry)) (now (row .entry)))) (now (out .exit)) r ⌝ }
 {
     if place.row == 0 {
@@ -120,7 +120,7 @@ pub fn lines(
 
 // The line of a refusal, which ends the file.
 pub fn refused(number: u32, offset: u64, out: &mut [u8], at: usize) -> Went
-    requires { ⌜ at + 24640 ≤ length (now out) ⌝ }
+    requires { ⌜ at + step-room ≤ length (now out) ⌝ }
     ensures { λ r. ⌜ ((row : List ℕ) → Left (away row number offset) (now (out .entry)) at r (now (out .exit))) ⌝ }
 {
     let end = text::refused_line(number as u64, offset, out, at);

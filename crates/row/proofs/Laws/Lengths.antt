@@ -1,14 +1,10 @@
 -- What the lengths of a row call are where they are right. Assumes nothing.
-use mathlib.Core.Path.{_≡_, refl, sym}
-use mathlib.Core.Bool.{Bool, true, false, _&&_, true≢false}
+use mathlib.Core.Path.{_≡_}
+use mathlib.Core.Bool.{true, _&&_, and-eq-true-iff}
 use Prim.Native.Nat.{ℕ, _+_, _*_}
 use lib.Dec.{eqb}
 use borrow.Author.Tests.{eqb-true}
 use Rattle.row.specs.Refusal.{mark-bytes, lengths-are}
-
-both : (a b : Bool) → (a && b) ≡ true → (a ≡ true) × (b ≡ true)
-both true b e = (refl, e)
-both false b e = absurd (true≢false (sym e))
 
 pub record Sized (w b m d l r : ℕ) : Type 0 where
   pub before : b ≡ w
@@ -20,10 +16,10 @@ pub record Sized (w b m d l r : ℕ) : Type 0 where
 pub sized : (w before marks drifts links room : ℕ) → lengths-are w before marks drifts links room ≡ true → Sized w before marks drifts links room
 unfolding lengths-are
 sized w before marks drifts links room e =
-    let e1 = both (eqb before w) (eqb marks (mark-bytes w) && (eqb drifts w && (eqb links (3 * w + 2) && eqb room w))) e in
-    let e2 = both (eqb marks (mark-bytes w)) (eqb drifts w && (eqb links (3 * w + 2) && eqb room w)) (e1 .1) in
-    let e3 = both (eqb drifts w) (eqb links (3 * w + 2) && eqb room w) (e2 .1) in
-    let e4 = both (eqb links (3 * w + 2)) (eqb room w) (e3 .1) in
+    let e1 = and-eq-true-iff (eqb before w) (eqb marks (mark-bytes w) && (eqb drifts w && (eqb links (3 * w + 2) && eqb room w))) .0 e in
+    let e2 = and-eq-true-iff (eqb marks (mark-bytes w)) (eqb drifts w && (eqb links (3 * w + 2) && eqb room w)) .0 (e1 .1) in
+    let e3 = and-eq-true-iff (eqb drifts w) (eqb links (3 * w + 2) && eqb room w) .0 (e2 .1) in
+    let e4 = and-eq-true-iff (eqb links (3 * w + 2)) (eqb room w) .0 (e3 .1) in
     record {
       before = eqb-true before w (e1 .0);
       marks = eqb-true marks (mark-bytes w) (e2 .0);

@@ -10,13 +10,13 @@ use lib.ListN.{length, take, drop, length-take, length-drop, length-append, drop
 use lib.Seq.{take-take, take-all, take-add, drop-at, drop-drop, take-at, length-take-le}
 use Rattle.text.specs.Wrote.{Wrote}
 use Rattle.wall.specs.Step.{Stepped, step-of}
-use Rattle.wall.specs.Operation.{due-of, width-of, fits, went-to, Stepping}
+use Rattle.wall.specs.Operation.{due-of, width-of, fits, went-to, Stepping, step-room}
 use Rattle.wall.specs.declared.Went.{Went}
 use Rattle.wall.specs.declared.Step.{Step}
 use Rattle.wall.specs.declared.Step.the-variants as step
 use Rattle.wall.proofs.Laws.Fit.{by-wall}
 use Rattle.stream.specs.Window.{Within, bytes-in, lacking, filled-up}
-use Rattle.stream.specs.Run.{steps-left}
+use Rattle.wall.specs.Stands.{steps-left}
 use Rattle.stream.specs.State.{Between, to-write, Made-ready, made-ready, taken-step, Advanced}
 use Rattle.stream.specs.declared.State.{State}
 use Rattle.stream.specs.declared.window.Window.{Window}
@@ -26,21 +26,21 @@ use Rattle.stream.specs.declared.Ended.the-variants.{ReadFailed, WriteFa
 use Rattle.stream.specs.declared.Turn.{Turn}
 use Rattle.stream.specs.declared.Turn.the-variants.{On, Stop}
 use Rattle.stream.proofs.Laws.Window.{filled-already}
-use Rattle.stream.proofs.Laws.Run.{Ahead, step-ahead, stands-fits}
+use Rattle.wall.proofs.Laws.Stands.{Ahead, step-ahead, stands-fits}
 
 module _ (s : State) (before : List ℕ) (n due : ℕ) (due-is : due ≡ due-of (s .wall)) where
   same-lack : {t : Bool} → lacking (s .window) due ≡ t → lacking (s .window) (due-of (s .wall)) ≡ t
   same-lack e = ap (lacking (s .window)) (sym due-is) ∙ e
 
   -- nothing is lacking, and there is room
-  pub at-once : Between s (length before) n → lacking (s .window) due ≡ false → s .text + 24640 ≤ n → made-ready s before n (On s) before
+  pub at-once : Between s (length before) n → lacking (s .window) due ≡ false → s .text + step-room ≤ n → made-ready s before n (On s) before
   unfolding made-ready filled-up to-write
   at-once b e i =
       record {
         wall = refl;
         filled = filled-already (s .window) (due-of (s .wall)) before (b .within) (same-lack e);
         idle = λ _. (refl, refl);
-        text = rw (same-lack e, le-ltb n (s .text + 24640) i);
+        text = rw (same-lack e, le-ltb n (s .text + step-room) i);
         room = i;
       }
 
@@ -49,12 +49,12 @@ module _ (s : State) (before : List ℕ) (n due : ℕ) (due-is : due ≡ due-of 
   unfolding to-write
   write-lacking e = rw (same-lack e)
 
-  pub write-full : lacking (s .window) due ≡ false → n < s .text + 24640 → to-write s n ≡ true
+  pub write-full : lacking (s .window) due ≡ false → n < s .text + step-room → to-write s n ≡ true
   unfolding to-write
-  write-full e i = rw (same-lack e, lt-ltb n (s .text + 24640) i)
+  write-full e i = rw (same-lack e, lt-ltb n (s .text + step-room) i)
 
   -- written, and then filled
-  pub written : (f : Filled) (w : Window) (after : List ℕ) → f ≡ Ready w → to-write s n ≡ true → 24640 ≤ n →
+  pub written : (f : Filled) (w : Window) (after : List ℕ) → f ≡ Ready w → to-write s n ≡ true → step-room ≤ n →
       (lacking (s .window) due ≡ false → (f ≡ Ready (s .window)) × (after ≡ before)) →
       filled-up (s .window) due before f after →
       made-ready s before n (On (record { wall = s .wall; window = w; text = 0 })) after
@@ -129,7 +129,7 @@ module _ (w : Window) (due : ℕ) (input : List ℕ) (i : Within w (length input
   left-within = record { ordered = omega (arith, i .ordered); inside = i .inside }
 
 -- a step that is taken: `part` is what is handed to it, `lent` the wall's row
-module _ (s : State) (input times held part lent : List ℕ) (b : Between s (length input) (length held)) (room : s .text + 24640 ≤ length held)
+module _ (s : State) (input times held part lent : List ℕ) (b : Between s (length input) (length held)) (room : s .text + step-room ≤ length held)
     (part-is : part ≡ take (due-of (s .wall)) (bytes-in (s .window) input)) (lent-is : lent ≡ take (width-of (s .wall)) times)
     (wide : width-of (s .wall) ≤ length times) where
   fit : fits (s .wall) (length lent) (length held) (s .text) ≡ true
@@ -164,7 +164,7 @@ module _ (s : State) (input times held part lent : List ℕ) (b : Between s (len
       }
 
 -- the same, of what the calls answered: the due size, where the part ends and the width
-module _ (s : State) (input times held : List ℕ) (b : Between s (length input) (length held)) (room : s .text + 24640 ≤ length held)
+module _ (s : State) (input times held : List ℕ) (b : Between s (length input) (length held)) (room : s .text + step-room ≤ length held)
     (due stop width : ℕ) (due-is : due ≡ due-of (s .wall)) (stop-is : stop ≡ s .window .start + min due (s .window .end - s .window .start))
     (width-is : width ≡ width-of (s .wall)) (wide : width ≤ length times) where
   abbrev handed : List ℕ

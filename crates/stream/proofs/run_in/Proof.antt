@@ -5,9 +5,9 @@ use native.Mathlib.Omega.{arith}
 use borrow.Author.Needs.{needs}
 use lib.ListN.{length}
 use Rattle.wall.specs.Operation.{due-of}
-use Rattle.stream.specs.Run.{Stands, steps-left}
+use Rattle.wall.specs.Stands.{Stands, steps-left}
 use Rattle.stream.specs.State.{Between}
-use Rattle.stream.proofs.Laws.Run.{none-due}
+use Rattle.wall.proofs.Laws.Stands.{none-due}
 use Rattle.stream.proofs.Laws.State.{ready-on, ready-between, turn-ahead, turn-between}
 use Rattle.stream.proofs.run_in.Statement.{statement}
 use Rattle.stream.proofs.run_in.Tie as tie

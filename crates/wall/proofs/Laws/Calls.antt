@@ -6,20 +6,19 @@ use Prim.Native.Nat.{ℕ, zero, suc, _+_, _≤_}
 use lib.ListN.{length, take, drop}
 use lib.Seq.{drop-at, length-take-le}
 use native.Mathlib.Omega.{arith}
-use borrow.Author.Tests.{eq-eqb}
 use Rattle.rule.proofs.Laws.Cases.{by-equal}
 use Rattle.row.proofs.Laws.Lists.{by-test}
 use Rattle.wall.specs.File.{Shown, texts-of, text-of, start-number, wall-text}
 use Rattle.wall.specs.Step.{stepped, away, due-size, step-of, steps-shown}
-use Rattle.wall.specs.Operation.{passes, due-of, wall-fits, fits, went-to, Stepping}
+use Rattle.wall.specs.Operation.{due-of, wall-fits, fits, went-to, Stepping}
 use Rattle.wall.specs.Program.{Calls, over, lent, took}
 use Rattle.wall.specs.declared.Place.{Place}
 use Rattle.wall.specs.declared.Wall.{Wall}
-use Rattle.wall.specs.declared.Wall.the-variants.{New, Start, Row, End, Over}
+use Rattle.wall.specs.declared.Wall.the-variants.{New, Start}
 use Rattle.wall.specs.declared.Went.{Went}
 use Rattle.wall.specs.declared.Step.{Step}
 use Rattle.wall.specs.declared.Step.the-variants as step
-use Rattle.wall.proofs.Laws.Fit.{fits-all, fit-of}
+use Rattle.wall.proofs.Laws.Fit.{fits-all, fits-due}
 use Rattle.wall.proofs.Laws.Left.{start-goes, start-away}
 use Rattle.wall.proofs.Laws.Steps.{one-step, nothing-more, steps-right}
 
@@ -27,15 +26,6 @@ texts-append : (xs ys : List Shown) → texts-of (xs ++ ys) ≡ texts-of xs ++ t
 unfolding texts-of
 texts-append [] ys = refl
 texts-append (x ∷ xs) ys = ap (λ (t : List ℕ). text-of x ++ t) (texts-append xs ys) ∙ sym (append-assoc (text-of x) (texts-of xs) (texts-of ys))
-
--- a wall that fits a call is given what is due
-due-right : (x : Wall) (n : ℕ) → wall-fits x n ≡ true → due-of x ≡ due-size x
-unfolding due-of wall-fits passes
-due-right New n e = refl
-due-right (Start p) n e = rw (eq-eqb _ _ (fit-of p n e .pass))
-due-right (Row p) n e = rw (eq-eqb _ _ (fit-of p n e .pass))
-due-right (End p) n e = refl
-due-right Over n e = refl
 
 -- the row lent for row 0 does not matter
 any-row : (n : ℕ) (p : Place) (ts us bs : List ℕ) → steps-shown n (Start p) ts bs ≡ steps-shown n (Start p) us bs
@@ -81,7 +71,7 @@ step-then : (m : ℕ) (x : Wall) (n : ℕ) (row rest : List ℕ) → wall-fits x
     let o = step-of x row (take (due-of x) rest) in
     texts-of (steps-shown (suc m) x row rest) ≡ texts-of (o .shows) ++ texts-of (steps-shown m (o .next) (o .row) (drop (due-of x) rest))
 unfolding steps-shown
-step-then m x n row rest e = rw (due-right x n e) (texts-append _ _)
+step-then m x n row rest e = rw (fits-due x n e) (texts-append _ _)
 
 -- so many steps, or more, have this text
 record Shows (x : Wall) (row rest text : List ℕ) : Type 0 where

@@ -1,33 +1,29 @@
 -- What fits a wall, test by test, and what is known where it fits. Assumes nothing.
-use mathlib.Core.Path.{_≡_, refl, sym}
-use mathlib.Core.Bool.{Bool, true, false, _&&_, true≢false}
+use mathlib.Core.Path.{_≡_, refl}
+use mathlib.Core.Bool.{true, false, and-eq-true-iff}
 use Prim.Native.Nat.{ℕ, _+_, _*_, _≤_, _<_}
 use lib.Dec.{eqb, leb}
 use borrow.Author.Tests.{eq-eqb, ne-eqb, eqb-true, le-leb, lt-leb, leb-true}
 use Rattle.rule.specs.Settings.{settings-refusal}
 use Rattle.wall.specs.Contents.{row-size}
 use Rattle.wall.specs.Step.{due-size}
-use Rattle.wall.specs.Operation.{passes, due-of, place-fits, wall-fits, fits}
+use Rattle.wall.specs.Operation.{passes, due-of, place-fits, wall-fits, fits, step-room}
 use Rattle.wall.specs.declared.Place.{Place}
 use Rattle.wall.specs.declared.Wall.{Wall}
-use Rattle.wall.specs.declared.Wall.the-variants.{Start, Row}
-
-both : (a b : Bool) → (a && b) ≡ true → (a ≡ true) × (b ≡ true)
-both true b e = (refl, e)
-both false b e = absurd (true≢false (sym e))
+use Rattle.wall.specs.declared.Wall.the-variants.{New, Start, Row, End, Over}
 
 module _ (x : Wall) (n room at : ℕ) where
-  pub no-room : room < at + 24640 → fits x n room at ≡ false
+  pub no-room : room < at + step-room → fits x n room at ≡ false
   unfolding fits
-  no-room i = rw (lt-leb (at + 24640) room i)
+  no-room i = rw (lt-leb (at + step-room) room i)
 
-  pub by-wall : at + 24640 ≤ room → fits x n room at ≡ wall-fits x n
+  pub by-wall : at + step-room ≤ room → fits x n room at ≡ wall-fits x n
   unfolding fits
-  by-wall i = rw (le-leb (at + 24640) room i)
+  by-wall i = rw (le-leb (at + step-room) room i)
 
-  pub fits-all : fits x n room at ≡ true → (at + 24640 ≤ room) × (wall-fits x n ≡ true)
+  pub fits-all : fits x n room at ≡ true → (at + step-room ≤ room) × (wall-fits x n ≡ true)
   unfolding fits
-  fits-all e = let b = both (leb (at + 24640) room) (wall-fits x n) e in (leb-true (at + 24640) room (b .0), b .1)
+  fits-all e = let b = and-eq-true-iff (leb (at + step-room) room) (wall-fits x n) .0 e in (leb-true (at + step-room) room (b .0), b .1)
 
 module _ (p : Place) (n : ℕ) where
   pub not-passed : (settings-refusal (p .settings) ≡ 0 → ⊥) → place-fits p n ≡ false
@@ -60,9 +56,9 @@ pub record Fit (p : Place) (n : ℕ) : Type 0 where
 pub fit-of : (p : Place) (n : ℕ) → place-fits p n ≡ true → Fit p n
 unfolding place-fits passes
 fit-of p n e =
-    let a = both (eqb (settings-refusal (p .settings)) 0) _ e in
-    let b = both (eqb n (p .settings .width)) _ (a .1) in
-    let c = both (leb (p .row) (p .settings .rows)) _ (b .1) in
+    let a = and-eq-true-iff (eqb (settings-refusal (p .settings)) 0) _ .0 e in
+    let b = and-eq-true-iff (eqb n (p .settings .width)) _ .0 (a .1) in
+    let c = and-eq-true-iff (leb (p .row) (p .settings .rows)) _ .0 (b .1) in
     record {
       pass = eqb-true (settings-refusal (p .settings)) 0 (a .0);
       long = eqb-true n (p .settings .width) (b .0);
@@ -80,3 +76,12 @@ module _ (p : Place) where
       (due-of (Start p) ≡ 3 + 8 * p .settings .width) × (due-of (Row p) ≡ row-size (p .settings .width))
   unfolding due-of passes due-size
   all-due e = (rw (eq-eqb (settings-refusal (p .settings)) 0 e), rw (eq-eqb (settings-refusal (p .settings)) 0 e))
+
+-- a wall that fits a call is given what the definition of a step takes
+pub fits-due : (x : Wall) (n : ℕ) → wall-fits x n ≡ true → due-of x ≡ due-size x
+unfolding due-of wall-fits passes
+fits-due New n e = refl
+fits-due (Start p) n e = rw (eq-eqb _ _ (fit-of p n e .pass))
+fits-due (Row p) n e = rw (eq-eqb _ _ (fit-of p n e .pass))
+fits-due (End p) n e = refl
+fits-due Over n e = refl

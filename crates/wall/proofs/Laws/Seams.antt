@@ -16,7 +16,7 @@ use Rattle.row.specs.Refusal.{mark-bytes, row-refusal}
 use Rattle.row.proofs.Laws.Accepted.{accepted}
 use Rattle.row.proofs.Laws.Columns.{own, beside, strangers}
 use Rattle.row.proofs.Laws.Reach.{others-correct}
-use Rattle.seam.specs.Seam.{seam-of, joined, number-of, side-of}
+use Rattle.seam.specs.Seam.{latest, seam-of, joined, number-of, side-of}
 use Rattle.seam.specs.declared.Side.the-variants.{Both}
 use Rattle.seam.proofs.Laws.{within-late, faulty-late}
 use Rattle.wall.specs.Contents.{row-size, marks-in, call-in}
@@ -29,7 +29,7 @@ abbrev Apart : (w : ℕ) → (marks : List ℕ) → Type 0
 Apart w ms = (a b : ℕ) → a < w → b < w → are-neighbours w a b ≡ true → marked ms a ≡ true → marked ms b ≡ true → ⊥
 
 -- a seam by its marks
-by-marks : (l r : ℕ) (lf rf : Bool) → l ≤ 2199023255551 → r ≤ 2199023255551 → (lf ≡ true → rf ≡ true → ⊥) →
+by-marks : (l r : ℕ) (lf rf : Bool) → l ≤ latest → r ≤ latest → (lf ≡ true → rf ≡ true → ⊥) →
     (number-of (seam-of l lf r rf) ≡ 0) × (side-of (seam-of l lf r rf) ≡ some Both → ⊥)
 unfolding seam-of joined number-of side-of
 by-marks l r true true i j apart = absurd (apart refl refl)

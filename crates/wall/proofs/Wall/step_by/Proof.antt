@@ -1,26 +1,19 @@
 -- `Wall::step_by` meets its contract: what fits, then the wall by its case. Assumes nothing.
 use mathlib.Core.Path.{_≡_, refl, sym, _∙_, ap}
-use mathlib.Core.Bool.{Bool, true, false, not, true≢false}
+use mathlib.Core.Bool.{true}
+use borrow.Author.Tests.{not-true, not-false}
 use Prim.Native.Nat.{_+_, _≤_}
 use lib.ListN.{length}
 use Rattle.wall.specs.Step.{stepped, step-of}
 use Rattle.wall.specs.declared.Wall.{Wall}
 use Rattle.wall.specs.declared.Wall.the-variants.{New, Over}
-use Rattle.wall.specs.Operation.{wall-fits, fits}
+use Rattle.wall.specs.Operation.{wall-fits, fits, step-room}
 use Rattle.wall.proofs.Laws.Fit.{fits-all}
 use Rattle.wall.proofs.Laws.Left.{left-silent, settings-keeps, end-keeps}
 use Rattle.wall.proofs.Laws.Stepping.{unfit, went}
 use borrow.Author.Needs.{needs}
 use Rattle.wall.proofs.Wall.step_by.Statement.{statement}
 use Rattle.wall.proofs.Wall.step_by.Tie as tie
-
-not-true : (b : Bool) → not b ≡ true → b ≡ false
-not-true true e = absurd (true≢false (sym e))
-not-true false e = refl
-
-not-false : (b : Bool) → not b ≡ false → b ≡ true
-not-false true e = refl
-not-false false e = absurd (true≢false e)
 
 -- what is known where all fits
 abbrev start : tie.Else1 → tie.Start
@@ -29,7 +22,7 @@ start c = c .before .before .before .before .before .before
 all-fits : (c : tie.Else1) → let a = start c .args in fits (a .self) (length (a .row .now)) (length (a .out .now)) (a .at) ≡ true
 all-fits c = sym (c .before .fits2 .ensures) ∙ not-false _ (c .if1 .left)
 
-room : (c : tie.Else1) → let a = start c .args in (a .at + 24640 ≤ length (a .out .now)) × (wall-fits (a .self) (length (a .row .now)) ≡ true)
+room : (c : tie.Else1) → let a = start c .args in (a .at + step-room ≤ length (a .out .now)) × (wall-fits (a .self) (length (a .row .now)) ≡ true)
 room c = let a = start c .args in fits-all (a .self) (length (a .row .now)) (length (a .out .now)) (a .at) (all-fits c)
 
 fits-requires : tie.Need-fits-requires

@@ -10,17 +10,18 @@ use lib.ListN.{length}
 use Rattle.rule.specs.Settings.{settings-refusal}
 use Rattle.rule.specs.declared.settings.Settings.{Settings}
 use Rattle.rule.proofs.Laws.Settings.{limits}
-use Rattle.row.specs.Refusal.{mark-bytes}
 use Rattle.wall.specs.Field.{field-refusal, body}
-use Rattle.wall.specs.Contents.{settings-size, settings-in, row-size, marks-field}
+use Rattle.wall.specs.Contents.{settings-size, settings-in, row-size}
 use Rattle.wall.specs.File.{settings-number, start-number, row-number}
 use Rattle.wall.specs.Step.{place, due-size, stepped, away, settings-step, start-step, after-row, row-step, end-step, step-of}
 use Rattle.wall.specs.Operation.{passes, due-of, width-of, place-fits, wall-fits}
 use Rattle.wall.specs.declared.Place.{Place}
 use Rattle.wall.specs.declared.Wall.{Wall}
 use Rattle.wall.specs.declared.Wall.the-variants.{New, Start, Row, End, Over}
+use Rattle.wall.proofs.Laws.Contents.{row-small}
+use Rattle.wall.proofs.Laws.Fit.{fits-due}
 use Rattle.wall.proofs.Laws.Field.{else-none}
-use Rattle.stream.specs.Run.{Stood, Stands, steps-left}
+use Rattle.wall.specs.Stands.{Stood, Stands, steps-left}
 
 -- a step to x: it stands, and fewer than n steps are left
 pub record Ahead (x : Wall) (n : ℕ) : Type 0 where
@@ -31,13 +32,9 @@ over-ahead : (n : ℕ) → 0 < n → Ahead Over n
 unfolding Stands steps-left
 over-ahead n i = record { stands = tt; less = i }
 
-row-size-most : (w : ℕ) → w ≤ 256 → row-size w ≤ 6710
-unfolding row-size marks-field mark-bytes
-row-size-most w i = omega arith
-
 module _ (s : Settings) (pass : settings-refusal s ≡ 0) where
   -- row l + 1 is accepted
-  row-ahead : (l at : ℕ) (b : Bool) → ltb (suc l) (s .rows) ≡ b → l < s .rows → at ≤ 2078 + suc l * 6710 →
+  row-ahead : (l at : ℕ) (b : Bool) → ltb (suc l) (s .rows) ≡ b → l < s .rows → at ≤ 2078 + 6710 * suc l →
       Ahead (after-row s (suc l) at) (s .rows - l + 1)
   unfolding after-row place Stands steps-left
   row-ahead l at true e i j =
@@ -45,11 +42,11 @@ module _ (s : Settings) (pass : settings-refusal s ≡ 0) where
       rw e (record { stands = (record { pass = pass; row = omega arith; offset = j }, more); less = omega arith })
   row-ahead l at false e i j = rw e (record { stands = record { pass = pass; row = omega arith; offset = j }; less = omega arith })
 
-  row-step-ahead : (l at : ℕ) (ts bs : List ℕ) (b : Bool) → eqb (row-number s ts bs) 0 ≡ b → l < s .rows → at ≤ 2078 + l * 6710 →
+  row-step-ahead : (l at : ℕ) (ts bs : List ℕ) (b : Bool) → eqb (row-number s ts bs) 0 ≡ b → l < s .rows → at ≤ 2078 + 6710 * l →
       Ahead (row-step s l at ts bs .next) (s .rows - l + 1)
   unfolding row-step stepped away
   row-step-ahead l at ts bs true e i j =
-      let size = row-size-most (s .width) (limits s pass .width .1) in
+      let size = row-small (s .width) (limits s pass .width .1) in
       rw e (row-ahead l (at + row-size (s .width)) (ltb (suc l) (s .rows)) refl i (omega arith))
   row-step-ahead l at ts bs false e i j = rw e (over-ahead _ (omega arith))
 
@@ -112,12 +109,7 @@ stands-fits (End p) i = place-fit p i
 stands-fits Over i = refl
 
 pub due-right : (x : Wall) → Stands x → due-of x ≡ due-size x
-unfolding Stands due-of passes
-due-right New i = refl
-due-right (Start p) i = rw (eq-eqb (settings-refusal (p .settings)) 0 (i .0 .pass))
-due-right (Row p) i = rw (eq-eqb (settings-refusal (p .settings)) 0 (i .0 .pass))
-due-right (End p) i = refl
-due-right Over i = refl
+due-right x i = fits-due x (width-of x) (stands-fits x i)
 
 -- nothing is due of a wall only where it is over
 pub none-due : (x : Wall) → Stands x → due-of x ≡ 0 → x ≡ Over

@@ -2,15 +2,15 @@
 use mathlib.Core.Path.{_≡_}
 use Prim.Native.Nat.{ℕ, _+_, _*_, _-_, _≤_, _<_}
 use Rattle.rule.specs.Settings.{settings-refusal}
 use Rattle.wall.specs.declared.Place.{Place}
 use Rattle.wall.specs.declared.Wall.{Wall}
 use Rattle.wall.specs.declared.Wall.the-variants.{New, Start, Row, End, Over}
 
 -- a place in a file: its settings pass, its row is one of theirs, and its offset is no larger than the fields before it
 pub record Stood (p : Place) : Type 0 where
   pub pass : settings-refusal (p .settings) ≡ 0
   pub row : p .row ≤ p .settings .rows
-  pub offset : p .offset ≤ 2078 + p .row * 6710
+  pub offset : p .offset ≤ 2078 + 6710 * p .row
 
 -- a wall that steps leave
 unfoldable pub Stands : Wall → Type 0
