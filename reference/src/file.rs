@@ -110,12 +110,14 @@ impl Values<'_> {
 pub struct ShownRow<'a> {
     /// The wall.
     pub wall: &'a Wall,
-    /// L, 1 to R.
+    /// L, 0 to R.
     pub number: usize,
     /// Its W times.
     pub times: &'a [u64],
     /// Its marks, one bit a column.
     pub marks: &'a [u8],
+    /// The link values of the next row; row R has no next.
+    pub links: &'a [u64],
 }
 
 /// Why a walk through a file ended early: the file's refusal, or an error of the one it is shown to.
@@ -133,8 +135,8 @@ impl<E> From<FileRefused> for Stop<E> {
     }
 }
 
-/// Runs the wall of `file`. Row L is shown when row L + 1 is accepted, row R when the file has ended
-/// rightly, with no tile of it faulty.
+/// Runs the wall of `file`. Row L, from row 0 on, is shown when row L + 1 is accepted, row R when the
+/// file has ended rightly, with no tile of it faulty.
 pub fn walk<E>(
     file: &[u8],
     mut show: impl FnMut(ShownRow) -> Result<(), E>,
@@ -142,7 +144,7 @@ pub fn walk<E>(
     let mut fields = Fields { file, at: 0 };
     let wall = take_settings(&mut fields)?;
     let mut times = take_start(&mut fields, &wall)?;
-    for next in 1..=wall.settings().rows() {
+    for number in 0..wall.settings().rows() {
         let row = take_row(&mut fields, &wall)?;
         let lent = Lent {
             before: &times,
@@ -153,15 +155,14 @@ pub fn walk<E>(
         let mut written = vec![0; times.len()];
         wall.row(&lent, &mut written)
             .map_err(|Refused(number)| row.tag_4.refused(number))?;
-        if next > 1 {
-            let shown = ShownRow {
-                wall: &wall,
-                number: next - 1,
-                times: &times,
-                marks: row.marks,
-            };
-            show(shown).map_err(Stop::Shown)?;
-        }
+        let shown = ShownRow {
+            wall: &wall,
+            number,
+            times: &times,
+            marks: row.marks,
+            links: &row.links,
+        };
+        show(shown).map_err(Stop::Shown)?;
         times = written;
     }
     fields.end()?;
@@ -170,6 +171,7 @@ pub fn walk<E>(
         number: wall.settings().rows(),
         times: &times,
         marks: &vec![0; wall.shape().mark_bytes()],
+        links: &[],
     };
     show(shown).map_err(Stop::Shown)
 }

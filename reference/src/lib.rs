@@ -1,7 +1,8 @@
 //! A plain reference for document 01, the pulse planner for detector walls.
 //!
 //! Each module renders one part of the document, in its order and words: settings, clocks, the
-//! forwarding rule, the tile, the wall's shape, the row, the seam, the wall file and its printing.
+//! forwarding rule, the tile, the wall's shape, the row, the seam, the wall file and its printing, and
+//! how far a faulty tile reaches.
 //! All sums are made in 128-bit signed numbers, far from any overflow. `generate` and `cases` are no part of
 //! the reference: they make wall files to compare programs on.
 
@@ -10,6 +11,7 @@ pub mod clock;
 pub mod file;
 pub mod generate;
 pub mod print;
+pub mod reach;
 pub mod row;
 pub mod rule;
 pub mod seam;

@@ -19,9 +19,12 @@ pub fn wallrun(file: &[u8], out: &mut impl Write) -> io::Result<Option<FileRefus
     }
 }
 
-/// The `t` lines of a row by column, then its `s` lines by left and then right.
+/// The `t` lines of a row by column, then its `s` lines by left and then right. Row 0 has none.
 fn print_row(row: &ShownRow, out: &mut impl Write) -> io::Result<()> {
     let number = row.number;
+    if number == 0 {
+        return Ok(());
+    }
     for (column, time) in row.times.iter().enumerate() {
         if is_marked(row.marks, column) {
             writeln!(out, "t {number} {column} -")?;

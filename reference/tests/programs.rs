@@ -1,17 +1,20 @@
 //! The programs as they are run.
 
 use std::fs::File;
-use std::io::Write;
+use std::io::{ErrorKind, Write};
 use std::path::PathBuf;
 use std::process::{Command, Output, Stdio};
 use std::thread;
 
 use wall_reference::generate;
 use wall_reference::print::wallrun;
+use wall_reference::reach::wallreach;
 
 const WALLREF: &str = env!("CARGO_BIN_EXE_wallref");
+const REACHREF: &str = env!("CARGO_BIN_EXE_reachref");
 const WALLGEN: &str = env!("CARGO_BIN_EXE_wallgen");
 const WALLDIFF: &str = env!("CARGO_BIN_EXE_walldiff");
+const WALLBENCH: &str = env!("CARGO_BIN_EXE_wallbench");
 
 /// A folder of its own for each test.
 fn folder(name: &str) -> PathBuf {
@@ -20,29 +23,58 @@ fn folder(name: &str) -> PathBuf {
     path
 }
 
-fn wallref(file: &[u8]) -> Output {
-    let mut child = Command::new(WALLREF)
+/// Runs a program that reads all of its input, or ends without reading any.
+fn run(program: &str, arguments: &[&str], file: &[u8]) -> Output {
+    let mut child = Command::new(program)
+        .args(arguments)
         .stdin(Stdio::piped())
         .stdout(Stdio::piped())
+        .stderr(Stdio::piped())
         .spawn()
         .unwrap();
     let mut input = child.stdin.take().unwrap();
     thread::scope(|scope| {
-        scope.spawn(move || input.write_all(file).unwrap());
+        scope.spawn(move || {
+            if let Err(error) = input.write_all(file) {
+                assert_eq!(error.kind(), ErrorKind::BrokenPipe);
+            }
+        });
         child.wait_with_output().unwrap()
     })
+}
+
+fn wallref(file: &[u8]) -> Output {
+    run(WALLREF, &[], file)
 }
 
 fn wallgen(arguments: &[&str]) -> Output {
     Command::new(WALLGEN).args(arguments).output().unwrap()
 }
 
-fn walldiff(program: &str, count: &str, name: &str) -> Output {
+/// Runs walldiff in a folder of this name; a difference is saved there.
+fn walldiff_with(arguments: &[&str], name: &str) -> Output {
     Command::new(WALLDIFF)
-        .args([program, count, "0"])
+        .args(arguments)
         .current_dir(folder(name))
         .output()
         .unwrap()
+}
+
+fn walldiff(program: &str, count: &str, name: &str) -> Output {
+    walldiff_with(&[program, count, "0"], name)
+}
+
+/// A program that does what wallref does, and then this line of shell.
+fn wallref_and(name: &str, then: &str) -> String {
+    let path = folder(name).join("program").to_str().unwrap().to_string();
+    let text = format!("#!/bin/sh\n\"{WALLREF}\"\n{then}");
+    // A process of its own writes it: a file that this one still has open can't be run.
+    let write = r#"printf '%s\n' "$1" > "$0" && chmod +x "$0""#;
+    let status = Command::new("sh")
+        .args(["-c", write, &path, &text])
+        .status();
+    assert!(status.unwrap().success());
+    path
 }
 
 #[test]
@@ -54,7 +86,34 @@ fn wallref_prints_what_the_library_prints() {
         let output = wallref(&file);
         assert!(output.status.success());
         assert_eq!(output.stdout, due);
+        assert!(output.stderr.is_empty());
     }
+}
+
+#[test]
+fn reachref_prints_what_the_library_prints() {
+    for seed in 0..50 {
+        let file = generate::file(seed);
+        let mut due = Vec::new();
+        wallreach(&file, &[3, 1, 1_024], &mut due).unwrap();
+        let output = run(REACHREF, &["3", "1", "1024"], &file);
+        assert!(output.status.success());
+        assert_eq!(output.stdout, due);
+        assert!(output.stderr.is_empty());
+    }
+}
+
+#[test]
+fn reachref_tells_a_bad_argument_and_prints_nothing() {
+    let file = generate::file(0);
+    let many = ["1"; 17];
+    for arguments in [&["0"][..], &["1025"], &["2", "x"], &[""], &many] {
+        let output = run(REACHREF, arguments, &file);
+        assert_eq!(output.status.code(), Some(2), "{arguments:?}");
+        assert!(output.stdout.is_empty());
+        assert!(!output.stderr.is_empty());
+    }
+    assert!(run(REACHREF, &many[..16], &file).status.success());
 }
 
 #[test]
@@ -116,11 +175,17 @@ fn wallgen_makes_walls_of_a_size() {
 
 #[test]
 fn walldiff_finds_no_difference_with_itself() {
-    let output = walldiff(WALLREF, "200", "same");
-    let text = String::from_utf8(output.stdout).unwrap();
-    assert!(output.status.success(), "{text}");
-    assert!(text.contains("walls            200\n"));
-    assert!(text.ends_with("no difference in 200 walls, seeds from 0\n"));
+    for (arguments, name) in [
+        (&[WALLREF, "200", "0"][..], "same"),
+        (&["--reach", REACHREF, "200", "0"], "same-reach"),
+    ] {
+        let output = walldiff_with(arguments, name);
+        let text = String::from_utf8(output.stdout).unwrap();
+        assert!(output.status.success(), "{text}");
+        assert!(text.starts_with("walls "), "{text}");
+        assert!(text.contains("\n  43 "), "{text}");
+        assert!(text.ends_with("no difference in 200 walls, seeds from 0\n"));
+    }
 }
 
 #[test]
@@ -138,7 +203,50 @@ fn walldiff_tells_a_difference_and_saves_the_wall() {
 }
 
 #[test]
+fn walldiff_tells_what_is_wrong_beside_the_printed_bytes() {
+    for (name, then, told) in [
+        ("status", "exit 3", "the program ended by a signal or"),
+        ("signal", "kill -9 $$", "the program ended by a signal or"),
+        (
+            "words",
+            "echo well >&2",
+            "standard error\n  reference: (none)\n",
+        ),
+        ("longer", "echo", "  program:   \\n\n"),
+    ] {
+        let output = walldiff(&wallref_and(name, then), "3", name);
+        let text = String::from_utf8(output.stdout).unwrap();
+        assert_eq!(output.status.code(), Some(1), "{text}");
+        assert!(text.contains(told), "{text}");
+    }
+    let output = walldiff(&wallref_and("well", "exit 0"), "3", "well");
+    assert!(output.status.success());
+}
+
+#[test]
+fn walldiff_holds_wallreach_against_its_own_reference() {
+    // wallref takes no notice of arguments and prints other lines.
+    let output = walldiff_with(&["--reach", WALLREF, "50", "0"], "other");
+    let text = String::from_utf8(output.stdout).unwrap();
+    assert_eq!(output.status.code(), Some(1));
+    assert!(text.contains("the program differs\narguments ["), "{text}");
+}
+
+#[test]
 fn walldiff_tells_a_program_that_cannot_be_run() {
     let output = walldiff("./no-such-program", "10", "none");
     assert_eq!(output.status.code(), Some(2));
+}
+
+#[test]
+fn wallbench_measures_nothing_where_the_programs_differ() {
+    let path = folder("bench");
+    let output = Command::new(WALLBENCH)
+        .args(["true", WALLREF, path.to_str().unwrap()])
+        .output()
+        .unwrap();
+    assert_eq!(output.status.code(), Some(1));
+    assert!(output.stdout.is_empty());
+    let said = String::from_utf8(output.stderr).unwrap();
+    assert!(said.contains("different bytes"), "{said}");
 }

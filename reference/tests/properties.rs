@@ -3,6 +3,7 @@
 
 use wall_reference::generate::describe::Description;
 use wall_reference::generate::{self, rng::Rng};
+use wall_reference::reach::{self, wallreach, Outcome};
 use wall_reference::row::Wall;
 use wall_reference::settings::Settings;
 use wall_reference::shape::{are_neighbours, is_marked};
@@ -103,6 +104,52 @@ fn break_tile(
     }
 }
 
+/// The number on the last line that `wallreach` prints.
+fn largest(description: &Description) -> u64 {
+    let mut printed = Vec::new();
+    let outcome = wallreach(&description.encode().bytes, &[], &mut printed).unwrap();
+    assert_eq!(outcome, Outcome::Whole);
+    let text = String::from_utf8(printed).unwrap();
+    let last = text.lines().last().unwrap();
+    last.strip_prefix("largest ").unwrap().parse().unwrap()
+}
+
+/// Runs the wall with one tile of row f faulty and checks each pulse of both runs against demand 3;
+/// answers how many pulses it moved.
+fn check_reach(
+    rng: &mut Rng,
+    wall: &Wall,
+    description: &Description,
+    first: &[Vec<u64>],
+    largest: u64,
+) -> u64 {
+    let w = wall.shape().columns();
+    let (f, column) = (rng.index(description.rows.len()), rng.index(w));
+    let mut broken = description.clone();
+    break_tile(rng, wall, &mut broken, f, column, first[f][column]);
+    let second = rows(wall, &broken).unwrap();
+    let b = reach::largest_difference(wall.shape(), &first[f]);
+    let distances = hops(w, column);
+    let mut moved = 0;
+    for (row, (one, other)) in first.iter().zip(&second).enumerate() {
+        for c in 0..w {
+            let difference = one[c].abs_diff(other[c]);
+            let reached = row > f && distances[c] <= reach::hops(f, row);
+            let most = if reached {
+                reach::ticks(b, wall.settings().h(), f, row)
+            } else {
+                0
+            };
+            assert!(
+                i128::from(difference) <= most && difference <= largest,
+                "row {row} column {c}, faulty row {f} column {column}"
+            );
+            moved += u64::from(difference > 0);
+        }
+    }
+    moved
+}
+
 #[test]
 fn one_faulty_tile_reaches_no_farther_than_demand_3_says() {
     let mut rng = Rng::new(7);
@@ -118,32 +165,13 @@ fn one_faulty_tile_reaches_no_farther_than_demand_3_says() {
         }
         let wall = wall_of(&description);
         let first = rows(&wall, &description).unwrap();
-        let w = wall.shape().columns();
-        let (f, column) = (rng.index(description.rows.len()), rng.index(w));
-        let mut broken = description.clone();
-        break_tile(&mut rng, &wall, &mut broken, f, column, first[f][column]);
-        let second = rows(&wall, &broken).unwrap();
-        let seams = wall.shape().seams().iter();
-        let b = seams
-            .map(|&(l, r)| first[f][l].abs_diff(first[f][r]))
-            .max()
-            .unwrap();
-        let h = u64::from(description.numbers.unit);
-        let hops = hops(w, column);
-        for (row, (one, other)) in first.iter().zip(&second).enumerate() {
-            for c in 0..w {
-                let difference = one[c].abs_diff(other[c]);
-                let reached = row > f && hops[c] <= row - f;
-                let most = if reached {
-                    2 * b + 8 * h + (row - f - 1) as u64
-                } else {
-                    0
-                };
-                assert!(difference <= most, "seed {seed} row {row} column {c}");
-                moved += u64::from(difference > 0);
-            }
+        let largest = largest(&description);
+        // Once for the largest walls, which take long; a few tiles of the others.
+        let tiles = if first.len() > 100 { 1 } else { 5 };
+        for _ in 0..tiles {
+            moved += check_reach(&mut rng, &wall, &description, &first, largest);
+            tried += 1;
         }
-        tried += 1;
     }
-    assert!(tried > 500 && moved > 1_000, "{tried} {moved}");
+    assert!(tried > 4_000 && moved > 10_000, "{tried} {moved}");
 }

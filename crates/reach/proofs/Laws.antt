@@ -3,3 +3,4 @@ pub mod Neighbours
 pub mod Span
 pub mod Search
 pub mod Gap
+pub mod Survey

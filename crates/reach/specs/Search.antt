@@ -1,7 +1,7 @@
 -- How far one broken tile reaches: the widest gap of its row, and its reach in a later row in ticks and in columns.
 -- Assumes nothing.
 use mathlib.Core.Path.{_≡_}
-use mathlib.Core.Bool.{Bool, cond, not, _||_}
+use mathlib.Core.Bool.{Bool, cond, not, _&&_, _||_}
 use mathlib.Core.List.{List}
 use Prim.Native.Nat.{ℕ, _+_, _-_, _*_, _≤_, _<_}
 use lib.Dec.{eqb, ltb}
@@ -37,6 +37,12 @@ reach-of s b n k =
     cond (not (eqb (settings-refusal s) 0)) (reached.Refused (settings-refusal s))
     (cond (outside-wall s b n k) reached.Outside
     (reached.Within (record { ticks = reach-ticks s b n; first = first-within (s .width) k n; last = last-within (s .width) k n })))
+
+-- for rows f and L: L is a later row of the wall
+unfoldable pub reach-in-row : Settings → (gap f later column : ℕ) → Reached
+reach-in-row s b f l k =
+    cond (not (eqb (settings-refusal s) 0)) (reached.Refused (settings-refusal s))
+    (cond (ltb f l && not (ltb (s .rows) l)) (reach-of s b (l - f) k) reached.Outside)
 
 -- demand 3 in the words of the answer: with B of row f, the pulses of row f + n differ in the columns from the first to the last
 -- alone, and by at most so many ticks

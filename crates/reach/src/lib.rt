@@ -1,5 +1,7 @@
 // How far one broken tile reaches: what a search has to cover. `widest_gap` gives B of a row, `reach`
-// the ticks and the columns of a later row; both answer every input.
+// the ticks and the columns so many rows later, `reach_in_row` those of a later row. Each answers every input.
+pub mod survey;
+
 use rule::Settings;
 use rule::rounding::larger;
 use rule::rounding::smaller;
@@ -9,7 +11,7 @@ ghost use lib.ListN.{length};
 ghost use Rattle.row.specs.Reach.{apart as Reach·apart};
 ghost use Rattle.row.specs.Reach.{widest-gap};
 ghost use Rattle.reach.specs.Span.{first-within};
-ghost use Rattle.reach.specs.Search.{gap-of, outside-wall, reach-of};
+ghost use Rattle.reach.specs.Search.{gap-of, outside-wall, reach-of, reach-in-row};
 
 pub enum Gap {
     // B, the largest difference between neighbouring pulses of the row.
@@ -68,6 +70,23 @@ pub fn reach(settings: Settings, gap: u64, rows: u64, column: u64) -> Reached
         first: first(width, column, rows),
         last: width - 1 - from_end,
     })
+}
+
+// Of a tile of the column in row f, in a later row of the wall, where B of row f is the gap.
+pub fn reach_in_row(settings: Settings, gap: u64, f: u64, later: u64, column: u64) -> Reached
+    ensures { λ r. ⌜ r ≡ reach-in-row settings gap f later column ⌝ }
+{
+    let number = settings.refusal();
+    if number != 0 {
+        return Reached::Refused(number);
+    }
+    if later <= f {
+        return Reached::Outside;
+    }
+    if settings.rows < later {
+        return Reached::Outside;
+    }
+    reach(settings, gap, later - f, column)
 }
 
 fn outside(settings: Settings, gap: u64, rows: u64, column: u64) -> bool

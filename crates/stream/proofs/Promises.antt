@@ -1,28 +1,26 @@
 -- The proofs of what specs/Promises.antt states. Assumes nothing.
 use mathlib.Core.Path.{_≡_, refl, sym, _∙_, ap}
 use mathlib.Core.Bool.{Bool, true, false}
-use mathlib.Core.Logic.{_⊎_, inl, inr}
-use mathlib.Core.List.{List, [], _++_, append-assoc, append-nil}
-use Prim.Native.Nat.{ℕ, zero, suc, _+_, _-_, _<_}
+use mathlib.Core.Logic.{inl, inr}
+use mathlib.Core.List.{List, [], _++_, append-assoc}
+use Prim.Native.Nat.{ℕ, zero, suc, _+_, _-_}
 use native.Mathlib.Omega.{arith}
-use borrow.Author.Tests.{ltb-true, ltb-false}
 use lib.Dec.{eqb, ltb}
-use lib.ListN.{length, take, drop, length-take, length-drop, take-append-drop}
-use lib.Seq.{take-append-le, drop-append-le}
+use lib.ListN.{length, take, drop, take-append-drop}
 use Rattle.wall.specs.File.{Shown, settings-number, start-number, row-number}
-use Rattle.wall.specs.Step.{due-size, place, stepped, away, settings-step, start-step, after-row, row-step, end-step, step-of, steps-shown}
-use Rattle.wall.specs.Operation.{passes, due-of, width-of}
+use Rattle.wall.specs.Step.{due-size, stepped, away, settings-step, start-step, step-of, steps-shown}
+use Rattle.wall.specs.Operation.{due-of, width-of}
 use Rattle.wall.specs.Promises.{Steps-right}
 use Rattle.wall.specs.declared.Place.{Place}
 use Rattle.wall.specs.declared.Wall.{Wall}
 use Rattle.wall.specs.declared.Wall.the-variants.{New, Start, Row, End, Over}
 use Rattle.wall.proofs.Promises.{steps-right}
-use Rattle.stream.specs.Window.{Within, bytes-in, lacking}
-use Rattle.stream.specs.declared.window.Window.{Window}
+use Rattle.stream.specs.Window.{bytes-in}
 use Rattle.wall.specs.Stands.{Stands}
 use Rattle.stream.specs.State.{taken-step}
 use Rattle.stream.specs.Promises.{taken, Runs, over, reads, steps, Run-right, Turn-right}
 use Rattle.wall.proofs.Laws.Stands.{step-stands, due-right}
+use Rattle.stream.proofs.Laws.Held.{Kept, kept-start, kept-row, kept-end, kept-over, held-part, enough-held}
 
 -- once the file is over, nothing more is shown
 nothing-more : (n : ℕ) (ts bs : List ℕ) → steps-shown n Over ts bs ≡ []
@@ -45,31 +43,6 @@ unfolding step-of settings-step stepped away
 new-any n row bs ts us cs true e = rw e (start-any n _ ts us cs _ refl)
 new-any n row bs ts us cs false e = rw e (nothing-more n ts cs ∙ sym (nothing-more n us cs))
 
--- a step keeps the wall's width, or the wall is over
-abbrev Kept : Wall → (row part : List ℕ) → Type 0
-Kept x ts bs = (width-of (step-of x ts bs .next) ≡ width-of x) ⊎ (step-of x ts bs .next ≡ Over)
-
-kept-start : (p : Place) (ts bs : List ℕ) (b : Bool) → eqb (start-number (p .settings) bs) 0 ≡ b → Kept (Start p) ts bs
-unfolding step-of start-step stepped away place width-of passes
-kept-start p ts bs true e = rw e (inl refl)
-kept-start p ts bs false e = rw e (inr refl)
-
-kept-row : (p : Place) (ts bs : List ℕ) (b m : Bool) → eqb (row-number (p .settings) ts bs) 0 ≡ b → ltb (suc (p .row)) (p .settings .rows) ≡ m →
-    Kept (Row p) ts bs
-unfolding step-of row-step after-row stepped away place width-of passes
-kept-row p ts bs true true e f = rw (e, f) (inl refl)
-kept-row p ts bs true false e f = rw (e, f) (inl refl)
-kept-row p ts bs false m e f = rw e (inr refl)
-
-kept-end : (p : Place) (ts bs : List ℕ) (b : Bool) → eqb (length bs) 0 ≡ b → Kept (End p) ts bs
-unfolding step-of end-step stepped away
-kept-end p ts bs true e = rw e (inr refl)
-kept-end p ts bs false e = rw e (inr refl)
-
-kept-over : (ts bs : List ℕ) → Kept Over ts bs
-unfolding step-of stepped
-kept-over ts bs = inr refl
-
 -- so the next step has the row that this one left, where it reads it
 abbrev Same-row : Wall → (n : ℕ) → (ts us bs cs : List ℕ) → Type 0
 Same-row x n ts us bs cs =
@@ -86,16 +59,6 @@ same-row (Row p) n ts us bs cs h =
     by-kept (Row p) n ts us bs cs h (kept-row p ts bs (eqb (row-number (p .settings) ts bs) 0) (ltb (suc (p .row)) (p .settings .rows)) refl refl)
 same-row (End p) n ts us bs cs h = by-kept (End p) n ts us bs cs h (kept-end p ts bs (eqb (length bs) 0) refl)
 same-row Over n ts us bs cs h = by-kept Over n ts us bs cs h (kept-over ts bs)
-
--- the due part of what is held, where the rest adds nothing to it
-held-part : (k : ℕ) (bs cs : List ℕ) (b : Bool) → ltb (length bs) k ≡ b → (length bs < k → cs ≡ []) →
-    (take k (bs ++ cs) ≡ take k bs) × (drop k (bs ++ cs) ≡ drop k bs ++ cs)
-held-part k bs cs true e short =
-    let none = short (ltb-true (length bs) k e) in
-    (rw (none, append-nil bs), rw (none, append-nil bs, append-nil (drop k bs)))
-held-part k bs cs false e short =
-    let enough = ltb-false (length bs) k e in
-    (take-append-le k bs cs enough, drop-append-le k bs cs enough)
 
 count : {x : Wall} {ts bs cs : List ℕ} {shows : List Shown} → Runs x ts bs cs shows → ℕ
 count over = 0
@@ -123,18 +86,6 @@ run-right times file shows d =
     sym (runs-shown d tt m 1027 refl) ∙ steps-right m (take (width-of New) times) file (omega arith)
 
 -- a turn
-size-of : (w : Window) (xs : List ℕ) → Within w (length xs) → length (bytes-in w xs) ≡ w .end - w .start
-unfolding bytes-in
-size-of w xs i = simp (length-take, length-drop) (omega (arith, i .ordered, i .inside))
-
-enough-held : (w : Window) (due : ℕ) (xs rest : List ℕ) (b : Bool) → w .ended ≡ b → Within w (length xs) → lacking w due ≡ false →
-    (w .ended ≡ true → rest ≡ []) → length (bytes-in w xs) < due → rest ≡ []
-unfolding lacking
-enough-held w due xs rest true f i e k l = k f
-enough-held w due xs rest false f i e k l =
-    let z : ⊥ = omega (arith, size-of w xs i, ltb-false (w .end - w .start) due (rw f at e)) in
-    absurd z
-
 pub turn-right : Turn-right
 unfolding Turn-right taken-step
 turn-right s before n m input times held r times-after output rest shows b made went ended d =

@@ -11,6 +11,7 @@ use Rattle.wall.specs.Step.{Stepped, step-of}
 use Rattle.wall.specs.Operation.{due-of, width-of, step-room}
 use Rattle.stream.specs.Window.{Within, bytes-in, lacking, Filled-up}
 use Rattle.wall.specs.Stands.{Stands}
+use Rattle.wall.specs.declared.Wall.the-variants.{New}
 use Rattle.stream.specs.declared.State.{State}
 use Rattle.stream.specs.declared.Ended.the-variants.{Done}
 use Rattle.stream.specs.declared.Turn.{Turn}
@@ -21,6 +22,14 @@ pub record Between (s : State) (input output : ℕ) : Type 0 where
   pub stands : Stands (s .wall)
   pub within : Within (s .window) input
   pub text : s .text ≤ output
+
+-- before the first step nothing is read and nothing is to be written
+pub record Starts (s : State) : Type 0 where
+  pub wall : s .wall ≡ New
+  pub start : s .window .start ≡ 0
+  pub end : s .window .end ≡ 0
+  pub flag : s .window .ended ≡ false
+  pub text : s .text ≡ 0
 
 -- the text is written, whole, where a read is to come or the room would be too small
 unfoldable pub to-write : State → (output : ℕ) → Bool

@@ -3,7 +3,7 @@
 //
 // No contract can say which bytes a system call reads or writes. Those here say the rest, and
 // specs/Promises.antt what follows where the reads deliver a file.
-mod window;
+pub mod window;
 
 use wall::Step;
 use wall::Wall;
@@ -15,7 +15,7 @@ ghost use lib.ListN.{length};
 ghost use Rattle.text.specs.Word.{Tables};
 ghost use Rattle.wall.specs.Operation.{due-of, step-room};
 ghost use Rattle.wall.specs.declared.Wall.the-variants.{Over};
-ghost use Rattle.stream.specs.State.{Between, made-ready, Advanced};
+ghost use Rattle.stream.specs.State.{Starts, Between, made-ready, Advanced};
 
 // How a run ended.
 pub enum Ended {
@@ -28,16 +28,31 @@ pub enum Ended {
 }
 
 // A run between two steps.
-struct State {
-    wall: Wall,
-    window: Window,
+pub struct State {
+    pub wall: Wall,
+    pub window: Window,
     // So many bytes of text stand in the output buffer, not yet written.
-    text: usize,
+    pub text: usize,
 }
 
 impl State {
+    // Before the first step.
+    pub fn start() -> State
+        ensures { λ r. ⌜ Starts r ⌝ }
+    {
+        State {
+            wall: Wall::New,
+            window: Window {
+                start: 0,
+                end: 0,
+                ended: false,
+            },
+            text: 0,
+        }
+    }
+
     // How many bytes the next step is to be given.
-    fn due(self) -> usize
+    pub fn due(self) -> usize
         ensures due { λ r. ⌜ r ≡ due-of (self .wall) ⌝ }
         ensures few { λ r. ⌜ r ≤ 6710 ⌝ }
     {
@@ -46,7 +61,7 @@ impl State {
     }
 }
 
-enum Turn {
+pub enum Turn {
     On(State),
     Stop(Ended),
 }
@@ -72,15 +87,7 @@ fn run_in(
 ) -> Ended
     requires { ⌜ Tables (now tables) × (6710 ≤ length (now input)) × (256 ≤ length (now row)) × (step-room ≤ length (now output)) ⌝ }
 {
-    let mut state = State {
-        wall: Wall::New,
-        window: Window {
-            start: 0,
-            end: 0,
-            ended: false,
-        },
-        text: 0,
-    };
+    let mut state = State::start();
     while state.due() != 0 {
         match ready(from, to, state, input, output) {
             Turn::On(next) => {
@@ -95,7 +102,7 @@ fn run_in(
 }
 
 // Writes the last text. Only here a run is done, and the wall is over.
-fn finish(to: i32, state: State, output: &[u8]) -> Ended
+pub fn finish(to: i32, state: State, output: &[u8]) -> Ended
     requires { ⌜ (state .wall ≡ Over) × (state .text ≤ length (now output)) ⌝ }
 {
     let text = state.text;
@@ -108,7 +115,7 @@ fn finish(to: i32, state: State, output: &[u8]) -> Ended
 
 // Has the due part in the window, and room for its text. Text is written where a read is to come, so that no row
 // waits for input that it does not need, and where the room is too small.
-fn ready(from: i32, to: i32, state: State, input: &mut [u8], output: &[u8]) -> Turn
+pub fn ready(from: i32, to: i32, state: State, input: &mut [u8], output: &[u8]) -> Turn
     requires { ⌜ Between state (length (now input)) (length (now output)) × (6710 ≤ length (now input)) × (step-room ≤ length (now output)) ⌝ }
     ensures { λ r. ⌜ made-ready state (now (input .entry)) (length (now (output .entry))) r (now (input .exit)) ⌝ }
 {

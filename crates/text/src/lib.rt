@@ -2,7 +2,7 @@
 // answers where its text ends.
 mod head;
 mod near;
-mod number;
+pub mod number;
 mod seams;
 pub mod table;
 mod tiles;

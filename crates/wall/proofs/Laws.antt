@@ -10,7 +10,8 @@ pub mod Rows
 pub mod Numbers
 pub mod Seams
 pub mod Fit
-pub mod Left
+pub mod Taken
+pub mod Lines
 pub mod Worked
 pub mod Stepping
 pub mod Stands

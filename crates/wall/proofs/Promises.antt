@@ -61,10 +61,10 @@ start-grown s bs pass e =
 
 -- what is shown, by the first part that is turned away
 module _ (file : List ℕ) where
-  abbrev rows-place : ℕ
+  abbrev pub rows-place : ℕ
   rows-place = 3 + settings-size + (3 + start-size (settings-of file .width))
 
-  abbrev start-at : ℕ
+  abbrev pub start-at : ℕ
   start-at = start-number (settings-of file) (after-settings file)
 
   shown-settings : (settings-number file ≡ 0 → ⊥) → shown file ≡ turned-away (settings-number file) 0 ∷ []
@@ -102,19 +102,19 @@ module _ (file : List ℕ) where
 
 -- a file that keeps every limit
 module _ (file : List ℕ) (k : Keeps file) where
-  settings-accepted : settings-number file ≡ 0
+  pub settings-accepted : settings-number file ≡ 0
   unfolding settings-number settings-of
   settings-accepted = else-other (field-refusal 1 settings-size file) _ (k .settings-there) ∙ k .settings-pass
 
-  start-accepted : start-at file ≡ 0
+  pub start-accepted : start-at file ≡ 0
   unfolding start-number start-of
   start-accepted =
       else-other (field-refusal 2 (start-size (settings-of file .width)) (after-settings file)) _ (k .start-there) ∙ rw (k .start-early)
 
-  first-row : Grown (settings-of file) 0 (start-of file)
+  pub first-row : Grown (settings-of file) 0 (start-of file)
   first-row = first-grown file settings-accepted start-accepted
 
-  few-rows : 0 + settings-of file .rows ≤ 1024
+  pub few-rows : 0 + settings-of file .rows ≤ 1024
   few-rows = rows-few file settings-accepted start-accepted
 
 pub accepted-whole : Accepted-whole

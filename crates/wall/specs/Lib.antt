@@ -4,6 +4,7 @@ pub mod Contents
 pub mod File
 pub mod Step
 pub mod Operation
+pub mod Take
 pub mod Stands
 pub mod Program
 pub mod Limits

@@ -73,3 +73,9 @@ unfoldable pub number-shown : List Shown → ℕ
 number-shown [] = 0
 number-shown (lines w l ms ts ∷ xs) = number-shown xs
 number-shown (turned-away n at ∷ xs) = n
+
+-- and its offset
+unfoldable pub offset-shown : List Shown → ℕ
+offset-shown [] = 0
+offset-shown (lines w l ms ts ∷ xs) = offset-shown xs
+offset-shown (turned-away n at ∷ xs) = at

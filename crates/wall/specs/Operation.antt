@@ -1,4 +1,4 @@
--- The operation that takes a step: what must fit, and what it leaves. Assumes nothing.
+-- A step with its text: what must fit, and what it leaves. Assumes nothing.
 use mathlib.Core.Path.{_≡_}
 use mathlib.Core.Bool.{Bool, true, false, cond, _&&_}
 use mathlib.Core.List.{List}
@@ -60,11 +60,6 @@ step-room = 24640
 unfoldable pub fits : Wall → (row room at : ℕ) → Bool
 fits x n room at = leb (at + step-room) room && wall-fits x n
 
--- a step's wall, and its text in the buffer from `at` on
-pub record Left (o : Stepped) (held : List ℕ) (at : ℕ) (went : Went) (out : List ℕ) : Type 0 where
-  pub next : went .wall ≡ o .next
-  pub text : Wrote held at (texts-of (o .shows)) out (went .end)
-
 -- a row can be worked out: its settings pass, its marks are there, and the rows are W long
 pub record Plannable (s : Settings) (part : List ℕ) (before times : ℕ) : Type 0 where
   pub pass : settings-refusal s ≡ 0
@@ -72,13 +67,12 @@ pub record Plannable (s : Settings) (part : List ℕ) (before times : ℕ) : Typ
   pub before-long : before ≡ s .width
   pub times-long : times ≡ s .width
 
--- the number of the row's tiles, and the row where it is 0
+-- the number of the row's tiles, and the row where it is 0; otherwise what was held
 pub record Worked-out (s : Settings) (part before held : List ℕ) (number : ℕ) (times : List ℕ) : Type 0 where
   pub answered :
       number
       ≡ or-else (field-refusal 4 (tiles-size (s .width)) (drop (marks-field (s .width)) part)) (row-refusal s before (call-in (s .width) part))
-  pub row : number ≡ 0 → times ≡ row-of s before (call-in (s .width) part)
-  pub as-long : length times ≡ length held
+  pub row : times ≡ cond (eqb number 0) (row-of s before (call-in (s .width) part)) held
 
 -- the answer: the wall of the step, and where its text ends
 unfoldable pub went-to : Stepped → (at : ℕ) → Went

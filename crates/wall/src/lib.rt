@@ -1,18 +1,23 @@
 // A wall file, step by step. Each step is given the part of the file that is due and the row that the
-// last one left; it writes the next row, and the text of what is then shown. `step` and `due` are the
-// operations: they answer every input.
+// last one left. `take` writes the next row and answers the refusal, if any; `step` writes the text of
+// what is then shown too. They and `due` are the operations: they answer every input.
 mod bytes;
 mod contents;
 mod field;
 mod row_step;
+pub mod rows;
+mod show;
 mod steps;
 
 use rule::Settings;
 ghost use mathlib.Core.Path.{_≡_};
 ghost use mathlib.Core.Bool.{cond};
-ghost use Prim.Native.Nat.{_≤_};
+ghost use Prim.Native.Nat.{_+_, _≤_};
+ghost use lib.Dec.{leb};
+ghost use lib.ListN.{length};
 ghost use Rattle.text.specs.Word.{Tables};
-ghost use Rattle.wall.specs.Operation.{passes, due-of, width-of, place-fits, fits, Stepping};
+ghost use Rattle.wall.specs.Operation.{passes, due-of, width-of, place-fits, wall-fits, step-room, Stepping};
+ghost use Rattle.wall.specs.Take.{Taking};
 
 // How far a file has been taken.
 pub struct Place {
@@ -35,6 +40,20 @@ pub enum Wall {
     End(Place),
     // Nothing: the file has ended, or is turned away.
     Over,
+}
+
+// The wall as a step leaves it. Where the file is turned away the number is not 0, and the offset is
+// that of the refusal.
+pub struct Took {
+    pub wall: Wall,
+    pub number: u32,
+    pub offset: u64,
+}
+
+pub enum Take {
+    Took(Took),
+    // What was lent does not fit the wall; nothing has changed.
+    Unfit,
 }
 
 // The wall as a step leaves it, and where the text ends.
@@ -94,8 +113,28 @@ impl Wall {
         }
     }
 
-    // Takes the part of the file that is due. The row is the wall's, W times; the text goes into `out`
-    // from `at` on.
+    // Takes the part of the file that is due. `row` is the wall's last, W times; `next` is written with
+    // row 0 or the next row where that is accepted.
+    pub fn take(self, part: &[u8], row: &[u64], next: &mut [u64]) -> Take
+        ensures { λ r. ⌜ Taking self (now (part .entry)) (now (row .entry)) (now (next .entry)) r (now (next .exit)) ⌝ }
+    {
+        if !fits(self, row.len()) {
+            return Take::Unfit;
+        }
+        if !fits(self, next.len()) {
+            return Take::Unfit;
+        }
+        match self {
+            Wall::New => Take::Took(steps::settings(part)),
+            Wall::Start(place) => Take::Took(steps::start(place, part, next)),
+            Wall::Row(place) => Take::Took(row_step::row(place, part, row, next)),
+            Wall::End(place) => Take::Took(steps::end(place, part)),
+            Wall::Over => Take::Took(steps::went_on(self)),
+        }
+    }
+
+    // Takes the part of the file that is due. The row is the wall's, W times, and the next takes its
+    // place; the text goes into `out` from `at` on.
     pub fn step(self, part: &[u8], row: &mut [u64], out: &mut [u8], at: usize) -> Step
         ensures { λ r. ⌜ Stepping self (now (part .entry)) (now (row .entry)) (now (out .entry)) at r (now (row .exit)) (now (out .exit)) ⌝ }
     {
@@ -116,20 +155,42 @@ impl Wall {
         requires { ⌜ Tables (now tables) ⌝ }
         ensures { λ r. ⌜ Stepping self (now (part .entry)) (now (row .entry)) (now (out .entry)) at r (now (row .exit)) (now (out .exit)) ⌝ }
     {
-        if !fits(self, row.len(), out.len(), at) {
+        if !has_room(out.len(), at) {
             return Step::Unfit;
         }
-        match self {
-            Wall::New => Step::Went(steps::settings(part, out, at)),
-            Wall::Start(place) => Step::Went(steps::start(place, part, row, out, at)),
-            Wall::Row(place) => Step::Went(row_step::row(tables, place, part, row, out, at)),
-            Wall::End(place) => Step::Went(steps::end(tables, place, part, row, out, at)),
-            Wall::Over => Step::Went(Went {
-                wall: self,
-                end: at,
-            }),
+        let width = self.width();
+        let mut next = time_space();
+        self.step_in(tables, part, &mut next[..width], row, out, at)
+    }
+
+    // With room for the next row.
+    fn step_in(
+        self,
+        tables: &[u64],
+        part: &[u8],
+        next: &mut [u64],
+        row: &mut [u64],
+        out: &mut [u8],
+        at: usize,
+    ) -> Step
+        requires { ⌜ Tables (now tables) × (length (now next) ≡ width-of self) × (at + step-room ≤ length (now out)) ⌝ }
+        ensures { λ r. ⌜ Stepping self (now (part .entry)) (now (row .entry)) (now (out .entry)) at r (now (row .exit)) (now (out .exit)) ⌝ }
+    {
+        match self.take(part, row, next) {
+            Take::Took(took) => {
+                let wall = took.wall;
+                let end = show::show(tables, self, took, part, next, row, out, at);
+                Step::Went(Went { wall, end })
+            }
+            Take::Unfit => Step::Unfit,
         }
     }
+}
+
+fn time_space() -> [u64; 256]
+    ensures { λ r. ⌜ 256 ≡ length r ⌝ }
+{
+    [0; 256]
 }
 
 fn place_width(place: Place) -> usize
@@ -143,16 +204,20 @@ fn place_width(place: Place) -> usize
     settings.width as usize
 }
 
-// Whether what is lent fits: the row is as long as the wall is wide, and the text has room.
-fn fits(wall: Wall, row: usize, room: usize, at: usize) -> bool
-    ensures { λ r. ⌜ r ≡ fits wall row room at ⌝ }
+// Whether any step's text has room.
+fn has_room(room: usize, at: usize) -> bool
+    ensures { λ r. ⌜ r ≡ leb (at + step-room) room ⌝ }
 {
     if room < ROOM {
         return false;
     }
-    if room - ROOM < at {
-        return false;
-    }
+    at <= room - ROOM
+}
+
+// Whether a row that is lent is as long as the wall is wide.
+fn fits(wall: Wall, row: usize) -> bool
+    ensures { λ r. ⌜ r ≡ wall-fits wall row ⌝ }
+{
     match wall {
         Wall::New => true,
         Wall::Start(place) => place_fits(place, row),

@@ -1,71 +1,39 @@
-// The step that takes a row: its marks and tiles, the row operation, and the lines of the row before.
+// The step that takes a row: its marks and tiles, and the row operation.
 use crate::Place;
+use crate::Took;
 use crate::Wall;
-use crate::Went;
 use crate::contents;
 use crate::field;
-use crate::steps::lines;
 use crate::steps::refused;
+use crate::steps::went_on;
 use row::Planned;
 use rule::Settings;
 ghost use mathlib.Core.Path.{_≡_};
 ghost use mathlib.Core.Bool.{true};
 ghost use Prim.Native.Nat.{_+_, _*_, _≤_};
 ghost use lib.ListN.{length};
-ghost use Rattle.row.specs.Refusal.{mark-bytes};
-ghost use Rattle.text.specs.Word.{Tables};
-ghost use Rattle.wall.specs.Field.{field-refusal};
 ghost use Rattle.wall.specs.Contents.{row-size};
 ghost use Rattle.wall.specs.Step.{row-step, after-row};
-ghost use Rattle.wall.specs.Operation.{place-fits, Left, Plannable, Worked-out, step-room};
+ghost use Rattle.wall.specs.Operation.{place-fits, Plannable, Worked-out};
+ghost use Rattle.wall.specs.Take.{took-of, row-left};
 
-pub fn row(
-    tables: &[u64],
-    place: Place,
-    part: &[u8],
-    row: &mut [u64],
-    out: &mut [u8],
-    at: usize,
-) -> Went
-    requires { ⌜ Tables (now tables) × (place-fits place (length (now row)) ≡ true) × (at + step-room ≤ length (now out)) ⌝ }
-    ensures left { λ r. ⌜ Left (row-step (place .settings) (place .row) (place .offset) (now (row .entry)) (now (part .entry))) (now (out .entry)) at r (now (out .exit)) ⌝ }
-    ensures row { λ r. ⌜ now (row .exit) ≡ row-step (place .settings) (place .row) (place .offset) (now (row .entry)) (now (part .entry)) .row ⌝ }
-{
-    let width = row.len();
-    let number = field::refusal(3, (width + 7) / 8, part);
-    if number != 0 {
-        return refused(number, place.offset, out, at);
-    }
-    let mut times = time_space();
-    row_in(tables, place, part, row, &mut times[..width], out, at)
-}
-
-// With room for the next row's times.
-fn row_in(
-    tables: &[u64],
-    place: Place,
-    part: &[u8],
-    row: &mut [u64],
-    times: &mut [u64],
-    out: &mut [u8],
-    at: usize,
-) -> Went
-    requires { ⌜ Tables (now tables) × (place-fits place (length (now row)) ≡ true) × (at + step-room ≤ length (now out)) ⌝ }
-    requires { ⌜ (field-refusal 3 (mark-bytes (place .settings .width)) (now part) ≡ 0) × (length (now times) ≡ length (now row)) ⌝ }
-    ensures left { λ r. ⌜ Left (row-step (place .settings) (place .row) (place .offset) (now (row .entry)) (now (part .entry))) (now (out .entry)) at r (now (out .exit)) ⌝ }
-    ensures row { λ r. ⌜ now (row .exit) ≡ row-step (place .settings) (place .row) (place .offset) (now (row .entry)) (now (part .entry)) .row ⌝ }
+pub fn row(place: Place, part: &[u8], row: &[u64], next: &mut [u64]) -> Took
+    requires { ⌜ (place-fits place (length (now row)) ≡ true) × (place-fits place (length (now next)) ≡ true) ⌝ }
+    ensures took { λ r. ⌜ r ≡ took-of (row-step (place .settings) (place .row) (place .offset) (now (row .entry)) (now (part .entry))) ⌝ }
+    ensures row { λ r. ⌜ now (next .exit) ≡ row-left (row-step (place .settings) (place .row) (place .offset) (now (row .entry)) (now (part .entry))) (now (next .entry)) ⌝ }
 {
     let width = row.len();
     let marks = (width + 7) / 8;
-    let settings = place.settings;
-    let number = plan(settings, part, row, times);
+    let number = field::refusal(3, marks, part);
     if number != 0 {
-        return refused(number, place.offset + (3 + marks as u64), out, at);
+        return refused(number, place.offset);
     }
-    let end = lines(tables, place, field::body(marks, part), row, out, at);
-    copy(times, row);
-    let wall = after(place, size(width) as u64);
-    Went { wall, end }
+    let settings = place.settings;
+    let number = plan(settings, part, row, next);
+    if number != 0 {
+        return refused(number, place.offset + (3 + marks as u64));
+    }
+    went_on(after(place, size(width) as u64))
 }
 
 // Works out the row that tags 3 and 4 describe, or answers its number.
@@ -125,12 +93,6 @@ fn plan_in(
     }
 }
 
-fn time_space() -> [u64; 256]
-    ensures { λ r. ⌜ 256 ≡ length r ⌝ }
-{
-    [0; 256]
-}
-
 fn drift_space() -> [u32; 256]
     ensures { λ r. ⌜ 256 ≡ length r ⌝ }
 {
@@ -171,15 +133,4 @@ pub fn size(width: usize) -> usize
     ensures { λ r. ⌜ r ≡ row-size width ⌝ }
 {
     3 + (width + 7) / 8 + (3 + (26 * width + 16))
-}
-
-fn copy(from: &[u64], to: &mut [u64])
-    requires { ⌜ (length (now from) ≡ length (now to)) × (length (now to) ≤ 256) ⌝ }
-    ensures { λ _. ⌜ now (to .exit) ≡ now (from .entry) ⌝ }
-{
-    let mut i = 0;
-    while i < to.len() {
-        to[i] = from[i];
-        i += 1;
-    }
 }

@@ -1,64 +1,56 @@
 // The steps that take the settings, row 0 and the end of the file.
 use crate::Place;
+use crate::Took;
 use crate::Wall;
-use crate::Went;
 use crate::contents;
 use crate::field;
 use rule::settings::Checked;
 ghost use mathlib.Core.Path.{_≡_};
 ghost use mathlib.Core.Bool.{true};
 ghost use mathlib.Core.List.{List};
-ghost use Prim.Native.Nat.{ℕ, _+_, _≤_};
+ghost use Prim.Native.Nat.{ℕ, _≤_};
 ghost use lib.ListN.{length};
-ghost use Rattle.row.specs.Refusal.{mark-bytes};
-ghost use Rattle.text.specs.Word.{Tables};
-ghost use Rattle.text.specs.Wrote.{Wrote};
-ghost use Rattle.wall.specs.File.{start-number, row-shown, texts-of};
-ghost use Rattle.wall.specs.Step.{away, settings-step, start-step, end-step};
-ghost use Rattle.wall.specs.Operation.{place-fits, Left, step-room};
+ghost use Rattle.wall.specs.File.{start-number};
+ghost use Rattle.wall.specs.Step.{settings-step, start-step, end-step};
+ghost use Rattle.wall.specs.Operation.{place-fits};
+ghost use Rattle.wall.specs.Take.{took, took-of, row-left};
+ghost use Rattle.wall.specs.declared.Wall.the-variants.{Over};
 
-pub fn settings(part: &[u8], out: &mut [u8], at: usize) -> Went
-    requires { ⌜ at + step-room ≤ length (now out) ⌝ }
-    ensures { λ r. ⌜ ((row : List ℕ) → Left (settings-step row (now (part .entry))) (now (out .entry)) at r (now (out .exit))) ⌝ }
+pub fn settings(part: &[u8]) -> Took
+    ensures { λ r. ⌜ ((row : List ℕ) → r ≡ took-of (settings-step row (now (part .entry)))) ⌝ }
 {
     let number = field::refusal(1, 24, part);
     if number != 0 {
-        return refused(number, 0, out, at);
+        return refused(number, 0);
     }
     let made = contents::settings(field::body(24, part));
     match made {
-        Checked::Passed(settings) => Went {
-            wall: Wall::Start(Place {
-                settings,
-                row: 0,
-                offset: 27,
-            }),
-            end: at,
-        },
-        Checked::Refused(number) => refused(number, 0, out, at),
+        Checked::Passed(settings) => went_on(Wall::Start(Place {
+            settings,
+            row: 0,
+            offset: 27,
+        })),
+        Checked::Refused(number) => refused(number, 0),
     }
 }
 
-pub fn start(place: Place, part: &[u8], row: &mut [u64], out: &mut [u8], at: usize) -> Went
-    requires { ⌜ (place-fits place (length (now row)) ≡ true) × (at + step-room ≤ length (now out)) ⌝ }
-    ensures left { λ r. ⌜ Left (start-step (place .settings) (place .offset) (now (row .entry)) (now (part .entry))) (now (out .entry)) at r (now (out .exit)) ⌝ }
-    ensures row { λ r. ⌜ now (row .exit) ≡ start-step (place .settings) (place .offset) (now (row .entry)) (now (part .entry)) .row ⌝ }
+pub fn start(place: Place, part: &[u8], next: &mut [u64]) -> Took
+    requires { ⌜ place-fits place (length (now next)) ≡ true ⌝ }
+    ensures took { λ r. ⌜ ((row : List ℕ) → r ≡ took-of (start-step (place .settings) (place .offset) row (now (part .entry)))) ⌝ }
+    ensures row { λ r. ⌜ ((row : List ℕ) → now (next .exit) ≡ row-left (start-step (place .settings) (place .offset) row (now (part .entry))) (now (next .entry))) ⌝ }
 {
     let number = start_number(place, part);
     if number != 0 {
-        return refused(number, place.offset, out, at);
+        return refused(number, place.offset);
     }
     let settings = place.settings;
-    let size = 8 * row.len();
-    contents::times(field::body(size, part), row);
-    Went {
-        wall: Wall::Row(Place {
-            settings,
-            row: 0,
-            offset: place.offset + (3 + size as u64),
-        }),
-        end: at,
-    }
+    let size = 8 * next.len();
+    contents::times(field::body(size, part), next);
+    went_on(Wall::Row(Place {
+        settings,
+        row: 0,
+        offset: place.offset + (3 + size as u64),
+    }))
 }
 
 // 41 to 43, 45, or 0 where row 0 is accepted.
@@ -77,55 +69,33 @@ fn start_number(place: Place, part: &[u8]) -> u32
     0
 }
 
-pub fn end(
-    tables: &[u64],
-    place: Place,
-    part: &[u8],
-    row: &[u64],
-    out: &mut [u8],
-    at: usize,
-) -> Went
-    requires { ⌜ Tables (now tables) × (place-fits place (length (now row)) ≡ true) × (at + step-room ≤ length (now out)) ⌝ }
-    ensures { λ r. ⌜ Left (end-step (place .settings) (place .row) (place .offset) (now (row .entry)) (now (part .entry))) (now (out .entry)) at r (now (out .exit)) ⌝ }
+pub fn end(place: Place, part: &[u8]) -> Took
+    ensures { λ r. ⌜ ((row : List ℕ) → r ≡ took-of (end-step (place .settings) (place .row) (place .offset) row (now (part .entry)))) ⌝ }
 {
     if part.len() != 0 {
-        return refused(44, place.offset, out, at);
+        return refused(44, place.offset);
     }
-    let marks = [0u8; 32];
-    let bytes = (row.len() + 7) / 8;
-    let end = lines(tables, place, &marks[..bytes], row, out, at);
-    Went {
-        wall: Wall::Over,
-        end,
+    went_on(Wall::Over)
+}
+
+// A step that is taken.
+pub fn went_on(wall: Wall) -> Took
+    ensures { λ r. ⌜ r ≡ took wall 0 0 ⌝ }
+{
+    Took {
+        wall,
+        number: 0,
+        offset: 0,
     }
 }
 
-// The lines of the last row accepted; row 0 has none.
-pub fn lines(
-    tables: &[u64],
-    place: Place,
-    marks: &[u8],
-    row: &[u64],
-    out: &mut [u8],
-    at: usize,
-) -> usize
-    requires { ⌜ Tables (now tables) × (place-fits place (length (now row)) ≡ true) × (length (now marks) ≡ mark-bytes (length (now row))) × (at + step-room ≤ length (now out)) ⌝ }
-    ensures { λ r. ⌜ Wrote (now (out .entry)) at (texts-of (row-shown (place .settings) (place .row) (now (marks .entry)) (now (row .entry)))) (now (out .exit)) r ⌝ }
+// A refusal, which ends the file.
+pub fn refused(number: u32, offset: u64) -> Took
+    ensures { λ r. ⌜ r ≡ took Over number offset ⌝ }
 {
-    if place.row == 0 {
-        return at;
-    }
-    text::row_lines(tables, row.len(), place.row, marks, row, out, at)
-}
-
-// The line of a refusal, which ends the file.
-pub fn refused(number: u32, offset: u64, out: &mut [u8], at: usize) -> Went
-    requires { ⌜ at + step-room ≤ length (now out) ⌝ }
-    ensures { λ r. ⌜ ((row : List ℕ) → Left (away row number offset) (now (out .entry)) at r (now (out .exit))) ⌝ }
-{
-    let end = text::refused_line(number as u64, offset, out, at);
-    Went {
+    Took {
         wall: Wall::Over,
-        end,
+        number,
+        offset,
     }
 }

@@ -3,6 +3,8 @@
 
 pub mod damage;
 pub mod describe;
+pub mod ends;
+pub mod kind;
 pub mod numbers;
 pub mod rng;
 pub mod rows;

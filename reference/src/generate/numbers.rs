@@ -61,6 +61,7 @@ fn size(rng: &mut Rng) -> (u32, u32) {
         _ => rng.range(41, 256),
     };
     let rows = match (columns, rng.below(200)) {
+        (256, 0..=19) => 1_024,
         (100.., _) => rng.range(1, 3),
         (_, 0..=89) => 1,
         (_, 90..=189) => rng.range(2, 6),

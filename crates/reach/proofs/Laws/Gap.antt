@@ -35,7 +35,7 @@ module _ (ts : List ℕ) (most : ℕ) where
         let here = columns-most (are-neighbours w n) (getD ts n 0) w 0 (λ k j l e. h n k (omega arith) (omega arith) e) in
         omega arith
 
-    not-wider : widest-gap w ts ≤ most
+    pub not-wider : widest-gap w ts ≤ most
     unfolding widest-gap
     not-wider = below-not-wider w (omega arith)
 

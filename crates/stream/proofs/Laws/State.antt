@@ -16,8 +16,8 @@ use Rattle.wall.specs.declared.Step.{Step}
 use Rattle.wall.specs.declared.Step.the-variants as step
 use Rattle.wall.proofs.Laws.Fit.{by-wall}
 use Rattle.stream.specs.Window.{Within, bytes-in, lacking, filled-up}
-use Rattle.wall.specs.Stands.{steps-left}
-use Rattle.stream.specs.State.{Between, to-write, Made-ready, made-ready, taken-step, Advanced}
+use Rattle.wall.specs.Stands.{Stands, steps-left}
+use Rattle.stream.specs.State.{Between, Starts, to-write, Made-ready, made-ready, taken-step, Advanced}
 use Rattle.stream.specs.declared.State.{State}
 use Rattle.stream.specs.declared.window.Window.{Window}
 use Rattle.stream.specs.declared.window.Filled.{Filled}
@@ -27,6 +27,12 @@ use Rattle.stream.specs.declared.Turn.{Turn}
 use Rattle.stream.specs.declared.Turn.the-variants.{On, Stop}
 use Rattle.stream.proofs.Laws.Window.{filled-already}
 use Rattle.wall.proofs.Laws.Stands.{Ahead, step-ahead, stands-fits}
+
+-- the first state stands between nothing and nothing
+pub starts-between : (s : State) (n m : ℕ) → Starts s → Between s n m
+unfolding Stands
+starts-between s n m b =
+    record { stands = rw (b .wall) tt; within = record { ordered = omega (arith, b .start, b .end); inside = omega (arith, b .end) }; text = omega (arith, b .text) }
 
 module _ (s : State) (before : List ℕ) (n due : ℕ) (due-is : due ≡ due-of (s .wall)) where
   same-lack : {t : Bool} → lacking (s .window) due ≡ t → lacking (s .window) (due-of (s .wall)) ≡ t
@@ -195,7 +201,7 @@ module _ (s : State) (input times held : List ℕ) (b : Between s (length input)
       rw (stop-is, due-is, width-is) on
 
 -- text that is written lies within the buffer
-wrote-within : (before : List ℕ) (at : ℕ) (text after : List ℕ) (end : ℕ) → at ≤ length before → Wrote before at text after end → end ≤ length after
+pub wrote-within : (before : List ℕ) (at : ℕ) (text after : List ℕ) (end : ℕ) → at ≤ length before → Wrote before at text after end → end ≤ length after
 wrote-within before at text after end i w =
     let long : min end (length after) ≡ min at (length before) + length text = simp (length-take, length-append) at (ap length (w .holds)) in
     omega (arith, w .goes)

@@ -5,10 +5,10 @@ use native.Mathlib.Omega.{arith}
 use borrow.Author.Needs.{needs}
 use lib.ListN.{length}
 use Rattle.wall.specs.Operation.{due-of}
-use Rattle.wall.specs.Stands.{Stands, steps-left}
+use Rattle.wall.specs.Stands.{steps-left}
 use Rattle.stream.specs.State.{Between}
 use Rattle.wall.proofs.Laws.Stands.{none-due}
-use Rattle.stream.proofs.Laws.State.{ready-on, ready-between, turn-ahead, turn-between}
+use Rattle.stream.proofs.Laws.State.{starts-between, ready-on, ready-between, turn-ahead, turn-between}
 use Rattle.stream.proofs.run_in.Statement.{statement}
 use Rattle.stream.proofs.run_in.Tie as tie
 
@@ -19,10 +19,11 @@ Inv-loop from to tables input₀ row₀ output₀ state₀ input row output stat
 abbrev μ-loop : tie.MeasureT-loop
 μ-loop from to tables input₀ row₀ output₀ state₀ input row output state = steps-left (state .wall)
 
+start-requires : tie.Need-start-requires Inv-loop μ-loop
+start-requires c κs = search needs
+
 loop-holds : tie.Need-loop-holds Inv-loop μ-loop
-unfolding Stands
-loop-holds c =
-    (refl, refl, refl, record { stands = tt; within = record { ordered = omega arith; inside = omega arith }; text = omega arith })
+loop-holds c = (refl, refl, refl, starts-between _ _ _ (c .start .ensures))
 
 due-requires : tie.Need-due-requires Inv-loop μ-loop
 due-requires c κs = search needs
@@ -94,6 +95,7 @@ run-in-spec =
     (tie.spec
     Inv-loop
     μ-loop
+    start-requires
     loop-holds
     due-requires
     ready-requires

@@ -19,7 +19,7 @@ use Rattle.wall.specs.declared.Went.{Went}
 use Rattle.wall.specs.declared.Step.{Step}
 use Rattle.wall.specs.declared.Step.the-variants as step
 use Rattle.wall.proofs.Laws.Fit.{fits-all, fits-due}
-use Rattle.wall.proofs.Laws.Left.{start-goes, start-away}
+use Rattle.wall.proofs.Laws.Taken.{start-goes, start-away}
 use Rattle.wall.proofs.Laws.Steps.{one-step, nothing-more, steps-right}
 
 texts-append : (xs ys : List Shown) → texts-of (xs ++ ys) ≡ texts-of xs ++ texts-of ys

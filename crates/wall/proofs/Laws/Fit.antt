@@ -1,13 +1,14 @@
 -- What fits a wall, test by test, and what is known where it fits. Assumes nothing.
-use mathlib.Core.Path.{_≡_, refl}
-use mathlib.Core.Bool.{true, false, and-eq-true-iff}
+use mathlib.Core.Path.{_≡_, refl, sym, _∙_, ap}
+use mathlib.Core.Bool.{Bool, true, false, true≢false, cond, and-eq-true-iff}
 use Prim.Native.Nat.{ℕ, _+_, _*_, _≤_, _<_}
 use lib.Dec.{eqb, leb}
 use borrow.Author.Tests.{eq-eqb, ne-eqb, eqb-true, le-leb, lt-leb, leb-true}
 use Rattle.rule.specs.Settings.{settings-refusal}
 use Rattle.wall.specs.Contents.{row-size}
 use Rattle.wall.specs.Step.{due-size}
-use Rattle.wall.specs.Operation.{passes, due-of, place-fits, wall-fits, fits, step-room}
+use Rattle.wall.specs.Operation.{passes, due-of, width-of, place-fits, wall-fits, fits, step-room}
+use Rattle.wall.specs.Take.{takes}
 use Rattle.wall.specs.declared.Place.{Place}
 use Rattle.wall.specs.declared.Wall.{Wall}
 use Rattle.wall.specs.declared.Wall.the-variants.{New, Start, Row, End, Over}
@@ -85,3 +86,32 @@ fits-due (Start p) n e = rw (eq-eqb _ _ (fit-of p n e .pass))
 fits-due (Row p) n e = rw (eq-eqb _ _ (fit-of p n e .pass))
 fits-due (End p) n e = refl
 fits-due Over n e = refl
+
+-- a row of W fits where any row does
+place-width : (p : Place) (n : ℕ) → place-fits p n ≡ true → place-fits p (cond (passes p) (p .settings .width) 0) ≡ true
+unfolding passes
+place-width p n e =
+    let f = fit-of p n e in
+    rw (eq-eqb (settings-refusal (p .settings)) 0 (f .pass)) (sym (ap (place-fits p) (f .long)) ∙ e)
+
+pub fits-width : (x : Wall) (n : ℕ) → wall-fits x n ≡ true → wall-fits x (width-of x) ≡ true
+unfolding wall-fits width-of
+fits-width New n e = refl
+fits-width (Start p) n e = place-width p n e
+fits-width (Row p) n e = place-width p n e
+fits-width (End p) n e = place-width p n e
+fits-width Over n e = refl
+
+-- rows that fit together, and a row that does not
+module _ (x : Wall) (n m : ℕ) where
+  pub takes-both : takes x n m ≡ true → (wall-fits x n ≡ true) × (wall-fits x m ≡ true)
+  unfolding takes
+  takes-both e = and-eq-true-iff (wall-fits x n) (wall-fits x m) .0 e
+
+  pub takes-none : m ≡ width-of x → takes x n m ≡ false → wall-fits x n ≡ false
+  unfolding takes
+  takes-none w e = go (wall-fits x n) refl
+    where
+      go : (b : Bool) → wall-fits x n ≡ b → wall-fits x n ≡ false
+      go false f = f
+      go true f = absurd (true≢false (sym (rw (f, w, fits-width x n f)) ∙ e))

@@ -18,7 +18,7 @@ use Rattle.wall.specs.declared.Place.{Place}
 use Rattle.wall.specs.declared.Wall.{Wall}
 use Rattle.wall.specs.declared.Wall.the-variants.{New, Start, Row, End, Over}
 use Rattle.wall.proofs.Laws.Contents.{times-length}
-use Rattle.wall.proofs.Laws.Left.{settings-away, settings-goes, start-away, start-goes, row-away, row-goes, end-away, end-goes}
+use Rattle.wall.proofs.Laws.Taken.{settings-away, settings-goes, start-away, start-goes, row-away, row-goes, end-away, end-goes}
 use Rattle.wall.proofs.Laws.Stands.{step-stands, stands-fits}
 
 -- a row after row 0 has W times

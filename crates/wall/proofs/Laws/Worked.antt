@@ -1,16 +1,16 @@
 -- A row that is worked out from its fields, by the answer of the row operation. Assumes nothing.
-use mathlib.Core.Path.{_≡_, refl, sym, _∙_, ap}
+use mathlib.Core.Path.{_≡_, sym, _∙_, ap}
 use mathlib.Core.List.{List}
 use Prim.Native.Nat.{ℕ, _+_, _-_, _*_, _/_, _≤_}
 use lib.ListN.{length, take, drop, length-drop}
 use lib.Seq.{take-all}
 use native.Mathlib.Omega.{arith}
+use borrow.Author.Tests.{eq-eqb, ne-eqb}
 use Rattle.rule.specs.declared.settings.Settings.{Settings}
 use Rattle.rule.proofs.Laws.Cases.{by-equal}
 use Rattle.row.specs.Call.{call, row-of}
 use Rattle.row.specs.Refusal.{mark-bytes, row-refusal, number-of, planned, written, Row-answered}
 use Rattle.row.proofs.Promises.{row-answered}
-use Rattle.row.proofs.Laws.Lists.{table-length}
 use Rattle.row.specs.declared.Planned.{Planned}
 use Rattle.wall.specs.Field.{field-refusal, body}
 use Rattle.wall.specs.Contents.{marks-field, tiles-size, marks-in, tiles-in, drifts-in, links-in, call-in}
@@ -43,7 +43,7 @@ module _ (s : Settings) (part before held : List ℕ) (p : Plannable s part (len
   -- the tiles' field is turned away
   pub tiles-away : (n : ℕ) → n ≡ field-refusal 4 (tiles-size (s .width)) (drop (marks-field (s .width)) part) → (n ≡ 0 → ⊥) → Worked-out s part before held n held
   tiles-away n e k =
-      record { answered = sym (rw (← e) (else-first n _ k)); row = λ z. absurd (k z); as-long = refl }
+      record { answered = sym (rw (← e) (else-first n _ k)); row = rw (ne-eqb n 0 k) }
 
   -- the row operation's answer and row
   module _ (there : field-refusal 4 (tiles-size (s .width)) (drop (marks-field (s .width)) part) ≡ 0) (answer : Planned) (times : List ℕ)
@@ -59,8 +59,16 @@ module _ (s : Settings) (part before held : List ℕ) (p : Plannable s part (len
         let a = row-answered s before x held in
         record {
           answered = number ∙ sym (else-other (field-refusal 4 (tiles-size (s .width)) (drop (marks-field (s .width)) part)) _ there);
-          row = λ z. is-row ∙ a .2 (sym number ∙ z);
-          as-long = by-equal (row-refusal s before x) 0
-              (λ z. ap length (is-row ∙ a .2 z) ∙ table-length _ (s .width) 0 ∙ sym (p .times-long))
-              (λ k. ap length (is-row ∙ a .1 k));
+          row = is-row
+              ∙ by-equal (number-of answer) 0
+              (λ z. rw (eq-eqb (number-of answer) 0 z) (a .2 (sym number ∙ z)))
+              (λ k. rw (ne-eqb (number-of answer) 0 k) (a .1 (λ z. k (number ∙ z))));
         }
+
+-- the row afterwards, by the number
+module _ {s : Settings} {part before held times : List ℕ} {n : ℕ} (w : Worked-out s part before held n times) where
+  pub worked-away : (n ≡ 0 → ⊥) → times ≡ held
+  worked-away k = rw (ne-eqb n 0 k) at (w .row)
+
+  pub worked-row : n ≡ 0 → times ≡ row-of s before (call-in (s .width) part)
+  worked-row e = rw (eq-eqb n 0 e) at (w .row)

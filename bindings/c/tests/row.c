@@ -1,0 +1,269 @@
+/* A row: times worked out by hand, numbers 21 to 26 and the order between them. */
+#include "tests.h"
+
+#include <string.h>
+
+#define SILENT POLZAINTU_SILENT
+#define LINKS_MOST (3 * POLZAINTU_WIDTH_MOST + 2)
+
+static const uint64_t LATEST = (UINT64_C(1) << 40) - 1;
+
+/* All that a call is lent. */
+struct row_call {
+    polzaintu_settings settings;
+    uint64_t before[POLZAINTU_WIDTH_MOST], links[LINKS_MOST], times[POLZAINTU_WIDTH_MOST];
+    polzaintu_ends ends;
+    size_t before_len, marks_len, drifts_len, links_len, times_len;
+    uint32_t drifts[POLZAINTU_WIDTH_MOST];
+    uint8_t marks[POLZAINTU_WIDTH_MOST / 8];
+};
+
+static uint32_t run(struct row_call *call) {
+    return polzaintu_row(&call->settings, call->before, call->before_len, call->marks,
+                         call->marks_len, call->drifts, call->drifts_len, call->links,
+                         call->links_len, call->times, call->times_len, &call->ends);
+}
+
+/* No faults: all times 1000, drifts 0, delays 100. Past each length, and where the call is to
+ * write, there is what `fill` leaves. */
+static struct row_call quiet(size_t width) {
+    struct row_call call;
+    fill(&call, sizeof call);
+    call.settings = PRINTED;
+    call.settings.width = width;
+    call.before_len = call.drifts_len = call.times_len = width;
+    call.marks_len = (width + 7) / 8;
+    call.links_len = 3 * width + 2;
+    for (size_t c = 0; c < width; c++) {
+        call.before[c] = 1000;
+        call.drifts[c] = 0;
+    }
+    for (size_t i = 0; i < call.marks_len; i++)
+        call.marks[i] = 0;
+    for (size_t i = 0; i < call.links_len; i++)
+        call.links[i] = 100;
+    return call;
+}
+
+static void mark(struct row_call *call, size_t column) {
+    call->marks[column / 8] |= (uint8_t)(1 << column % 8);
+}
+
+/* Marks a column, and has it send the same on each of its links. */
+static void fault(struct row_call *call, size_t column, uint64_t arrival) {
+    size_t width = call->before_len;
+    mark(call, column);
+    for (size_t tile = 0; tile < width; tile++)
+        if (tile == column || neighbours(width, tile, column))
+            call->links[link_place(width, tile, column)] = arrival;
+}
+
+/* The call writes these times, their ends, and nothing else. */
+static void planned(struct row_call call, const uint64_t *times, polzaintu_ends ends) {
+    struct row_call expected;
+    memcpy(&expected, &call, sizeof call);
+    memcpy(expected.times, times, call.times_len * sizeof *times);
+    expected.ends = ends;
+    CHECK(run(&call) == 0);
+    CHECK(memcmp(&call, &expected, sizeof call) == 0);
+}
+
+/* The call is turned away with the number, and all that was lent holds what it held. */
+static void refused(struct row_call call, uint32_t number) {
+    struct row_call before;
+    memcpy(&before, &call, sizeof call);
+    CHECK(run(&call) == number);
+    CHECK(memcmp(&call, &before, sizeof call) == 0);
+}
+
+static void accepted(struct row_call call) {
+    CHECK(run(&call) == 0);
+}
+
+static void printed_wall(void) {
+    struct row_call call = quiet(6);
+    call.before[3] = 1080;
+    planned(call, (uint64_t[]){1500, 1500, 1500, 1536, 1500, 1500}, (polzaintu_ends){1500, 1536});
+}
+
+/* A clock of drift 10,000 reads 1111 at 1100, and first reads 1511 at 1497. */
+static void drifts_round(void) {
+    struct row_call call = quiet(6);
+    call.settings.drift = 10000;
+    call.settings.unit = 16;
+    call.drifts[1] = call.drifts[5] = 10000;
+    planned(call, (uint64_t[]){1500, 1497, 1500, 1500, 1500, 1497}, (polzaintu_ends){1497, 1500});
+}
+
+/* Column 3 is heard by tiles 2 to 5. */
+static void faults(void) {
+    const uint64_t silent[] = {1500, 1500, 1500, 1536, 1500, 1500};
+    const uint64_t early[] = {1500, 1500, 1476, 1464, 1476, 1476};
+    struct row_call call = quiet(6);
+    fault(&call, 3, SILENT);
+    call.before[3] = UINT64_MAX; /* a faulty tile's time is not read */
+    planned(call, silent, (polzaintu_ends){1500, 1536});
+    fault(&call, 3, LATEST);
+    planned(call, silent, (polzaintu_ends){1500, 1536});
+    fault(&call, 3, 0);
+    planned(call, early, (polzaintu_ends){1464, 1500});
+}
+
+static void widest_wall(void) {
+    uint64_t times[256];
+    for (size_t c = 0; c < 256; c++)
+        times[c] = 1500;
+    planned(quiet(256), times, (polzaintu_ends){1500, 1500});
+}
+
+static void settings_numbers(void) {
+    for (size_t i = 0; i < REFUSED_SETTINGS_COUNT; i++) {
+        struct row_call call = quiet(6);
+        call.settings = REFUSED_SETTINGS[i].settings;
+        refused(call, REFUSED_SETTINGS[i].number);
+        call.times_len = 0; /* 21 applies too */
+        refused(call, REFUSED_SETTINGS[i].number);
+    }
+}
+
+static void wrong_length(size_t *length, struct row_call *call) {
+    size_t right = *length;
+    const size_t wrong[] = {right - 1, right + 1, 0};
+    for (size_t i = 0; i < 3; i++) {
+        *length = wrong[i];
+        refused(*call, 21);
+    }
+    *length = right;
+}
+
+static void wrong_lengths(size_t width) {
+    struct row_call call = quiet(width);
+    wrong_length(&call.before_len, &call);
+    wrong_length(&call.marks_len, &call);
+    wrong_length(&call.drifts_len, &call);
+    wrong_length(&call.links_len, &call);
+    wrong_length(&call.times_len, &call);
+}
+
+static void stray_marks(size_t width) {
+    for (size_t column = width; column < (width + 7) / 8 * 8; column++) {
+        struct row_call call = quiet(width);
+        mark(&call, column);
+        refused(call, 22);
+    }
+}
+
+static void late_times(void) {
+    for (size_t column = 0; column < 9; column++) {
+        struct row_call call = quiet(9);
+        call.before[column] = LATEST;
+        accepted(call);
+        call.before[column] = LATEST + 1;
+        refused(call, 23);
+        call.before[column] = UINT64_MAX;
+        refused(call, 23);
+        fault(&call, column, SILENT);
+        accepted(call);
+    }
+}
+
+static bool hears(size_t width, size_t tile, size_t sender) {
+    return tile == sender || neighbours(width, tile, sender);
+}
+
+/* Two faulty tiles: 24 where some tile hears both. */
+static void crowded(size_t width) {
+    for (size_t a = 0; a < width; a++)
+        for (size_t b = a + 1; b < width; b++) {
+            struct row_call call = quiet(width);
+            fault(&call, a, SILENT);
+            fault(&call, b, SILENT);
+            bool both = false;
+            for (size_t tile = 0; tile < width; tile++)
+                both = both || (hears(width, tile, a) && hears(width, tile, b));
+            if (both)
+                refused(call, 24);
+            else
+                accepted(call);
+        }
+}
+
+static void fast_drifts(void) {
+    for (size_t column = 0; column < 9; column++) {
+        struct row_call call = quiet(9);
+        call.drifts[column] = 1;
+        refused(call, 25);
+        call.drifts[column] = UINT32_MAX;
+        refused(call, 25);
+        call.settings.drift = 100;
+        call.settings.unit = 13;
+        call.drifts[column] = 100;
+        accepted(call);
+        call.drifts[column] = 101;
+        refused(call, 25);
+    }
+}
+
+static void bad_links(void) {
+    for (size_t place = 0; place < 3 * 9 + 2; place++) {
+        struct row_call call = quiet(9);
+        call.links[place] = 90;
+        accepted(call);
+        const uint64_t bad[] = {89, 101, 0, SILENT, LATEST};
+        for (size_t i = 0; i < sizeof bad / sizeof *bad; i++) {
+            call.links[place] = bad[i];
+            refused(call, 26);
+        }
+    }
+    for (size_t column = 0; column < 9; column++) {
+        struct row_call call = quiet(9);
+        fault(&call, column, LATEST);
+        accepted(call);
+        fault(&call, column, LATEST + 1);
+        refused(call, 26);
+        fault(&call, column, SILENT - 1);
+        refused(call, 26);
+    }
+}
+
+/* Each fault is added to those of higher numbers, further on in the row. */
+static void lowest_applies(void) {
+    struct row_call call = quiet(9);
+    call.links[0] = 101;
+    refused(call, 26);
+    call.drifts[8] = 1;
+    refused(call, 25);
+    mark(&call, 4);
+    mark(&call, 5);
+    refused(call, 24);
+    call.before[8] = LATEST + 1;
+    refused(call, 23);
+    mark(&call, 15);
+    refused(call, 22);
+    call.links_len--;
+    refused(call, 21);
+    call.settings.hold = 191;
+    refused(call, 9);
+    call.settings.rows = 0;
+    refused(call, 2);
+}
+
+void row_tests(void) {
+    printed_wall();
+    drifts_round();
+    faults();
+    widest_wall();
+    settings_numbers();
+    wrong_lengths(6);
+    wrong_lengths(9);
+    stray_marks(6);
+    stray_marks(9);
+    stray_marks(15);
+    late_times();
+    crowded(6);
+    crowded(9);
+    crowded(17);
+    fast_drifts();
+    bad_links();
+    lowest_applies();
+}

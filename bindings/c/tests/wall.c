@@ -1,0 +1,168 @@
+/* A wall file by steps: what each step leaves, and what fits no wall. */
+#include "wall_file.h"
+
+#include <string.h>
+
+static void stands(const struct walk *walk, uint64_t stage, uint64_t row, uint64_t offset,
+                   size_t due) {
+    CHECK(walk->wall.stage == stage);
+    CHECK(walk->wall.row == row);
+    CHECK(walk->wall.offset == offset);
+    CHECK(walk->wall.settings.width == 6 && walk->wall.settings.rows == 2);
+    CHECK(walk->wall.settings.delay == 100 && walk->wall.settings.uncertainty == 10);
+    CHECK(walk->wall.settings.hold == 400 && walk->wall.settings.drift == 0);
+    CHECK(walk->wall.settings.unit == 12);
+    CHECK(polzaintu_wall_due(&walk->wall) == due);
+    CHECK(polzaintu_wall_width(&walk->wall) == 6);
+}
+
+static void row_is(const uint64_t row[6], const uint64_t expected[6]) {
+    CHECK(memcmp(row, expected, 6 * sizeof *row) == 0);
+}
+
+static void accepted_wall(void) {
+    struct wall_file file = small_wall();
+    struct walk walk = begin();
+    CHECK(walk.wall.stage == POLZAINTU_SETTINGS_DUE);
+    CHECK(polzaintu_wall_due(&walk.wall) == 27);
+    CHECK(polzaintu_wall_width(&walk.wall) == 0);
+    go(&walk, &file, 1);
+    stands(&walk, POLZAINTU_START_DUE, 0, TAG_2, 3 + 48);
+    go(&walk, &file, 1);
+    stands(&walk, POLZAINTU_ROW_DUE, 0, TAG_3, 4 + 3 + 172);
+    row_is(walk.next, (uint64_t[]){1000, 1000, 1000, 1080, 1000, 1000});
+    go(&walk, &file, 1);
+    stands(&walk, POLZAINTU_ROW_DUE, 1, LAST_TAG_3, 4 + 3 + 172);
+    row_is(walk.next, (uint64_t[]){1500, 1500, 1500, 1536, 1500, 1500});
+    go(&walk, &file, 1);
+    stands(&walk, POLZAINTU_END_DUE, 2, END, 1);
+    /* Tile 3's own stamp is 1636, its neighbours' are 1600: D is 24, P is 1612. */
+    row_is(walk.next, (uint64_t[]){2000, 2000, 2000, 2012, 2000, 2000});
+    go(&walk, &file, 1);
+    CHECK(walk.wall.stage == POLZAINTU_OVER);
+    CHECK(polzaintu_wall_due(&walk.wall) == 0);
+    CHECK(polzaintu_wall_width(&walk.wall) == 0);
+    row_is(walk.next, (uint64_t[]){2000, 2000, 2000, 2012, 2000, 2000});
+}
+
+/* The printed wall's row 1 with the bits of each seam, in the order of wallrun. */
+static void printed_seams(void) {
+    static const struct {
+        size_t left, right;
+        uint64_t midpoint, half_gap;
+    } SEAMS[] = {
+        {0, 1, 0x4097700000000000, 0},
+        {0, 2, 0x4097700000000000, 0},
+        {1, 2, 0x4097700000000000, 0},
+        {2, 3, 0x4097b80000000000, 0x4032000000000000},
+        {3, 4, 0x4097b80000000000, 0xc032000000000000},
+        {3, 5, 0x4097b80000000000, 0xc032000000000000},
+        {4, 5, 0x4097700000000000, 0},
+    };
+    struct wall_file file = small_wall();
+    put_settings(&file, PRINTED);
+    file.length = LAST_TAG_3;
+    struct walk walk = begin();
+    go(&walk, &file, 4);
+    CHECK(walk.wall.stage == POLZAINTU_OVER);
+    for (size_t i = 0; i < sizeof SEAMS / sizeof *SEAMS; i++) {
+        uint32_t side = 9;
+        polzaintu_halves halves;
+        CHECK(polzaintu_seam(walk.row[SEAMS[i].left], false, walk.row[SEAMS[i].right], false, &side,
+                             &halves) == 0);
+        CHECK(side == POLZAINTU_CLOSED);
+        CHECK(bits(halves.midpoint) == SEAMS[i].midpoint);
+        CHECK(bits(halves.half_gap) == SEAMS[i].half_gap);
+    }
+}
+
+/* A faulty tile in row 1, silent on each of its links: its mark comes with row 2. */
+static void faulty_tile(void) {
+    struct wall_file file = small_wall();
+    put(&file, LAST_TAG_3 + 3, 1, 1 << 3);
+    for (size_t tile = 2; tile < 6; tile++)
+        put(&file, link_at(LAST_TAG_4, tile, 3), 8, POLZAINTU_SILENT);
+    struct walk walk = begin();
+    go(&walk, &file, 4);
+    row_is(walk.next, (uint64_t[]){2000, 2000, 2000, 2036, 2000, 2000});
+}
+
+/* The step fits no wall, and changes nothing. */
+static void unfit(struct walk walk, size_t row_len, size_t next_len) {
+    struct wall_file file = small_wall();
+    const struct wall_file lent = file;
+    const struct walk before = walk;
+    CHECK(polzaintu_wall_step(&walk.wall, file.bytes, file.length, walk.row, row_len, walk.next,
+                              next_len, &walk.offset) == POLZAINTU_UNFIT);
+    CHECK(memcmp(&walk, &before, sizeof walk) == 0);
+    CHECK(memcmp(file.bytes, lent.bytes, sizeof file.bytes) == 0);
+}
+
+static void unfit_rows(void) {
+    struct wall_file file = small_wall();
+    for (size_t steps = 1; steps <= 4; steps++) {
+        struct walk walk = begin();
+        go(&walk, &file, steps);
+        unfit(walk, 5, 6);
+        unfit(walk, 6, 5);
+        unfit(walk, 0, 6);
+        unfit(walk, 6, 0);
+        unfit(walk, 7, 7);
+    }
+}
+
+static void unfit_walls(void) {
+    struct wall_file file = small_wall();
+    for (size_t steps = 1; steps <= 4; steps++) {
+        struct walk walk = begin(), changed;
+        go(&walk, &file, steps);
+        changed = walk;
+        changed.wall.settings.unit = 0;
+        unfit(changed, 6, 6);
+        changed = walk;
+        changed.wall.row = 3;
+        unfit(changed, 6, 6);
+        changed = walk;
+        changed.wall.offset = UINT64_MAX;
+        unfit(changed, 6, 6);
+    }
+}
+
+/* Nothing is taken of a file that is over, whatever is lent. */
+static void over(void) {
+    struct wall_file file = small_wall();
+    struct walk walk = begin();
+    go(&walk, &file, 5);
+    const struct walk before = walk;
+    CHECK(polzaintu_wall_step(&walk.wall, file.bytes, file.length, walk.row, 0, walk.next, 0,
+                              &walk.offset) == 0);
+    CHECK(memcmp(&walk, &before, sizeof walk) == 0);
+}
+
+/* The settings need no row; the widest wall's rows have the most bytes. */
+static void most_bytes(void) {
+    struct wall_file file = small_wall();
+    polzaintu_settings settings = PRINTED;
+    settings.width = POLZAINTU_WIDTH_MOST;
+    put_settings(&file, settings);
+    polzaintu_wall wall;
+    uint64_t row[POLZAINTU_WIDTH_MOST], next[POLZAINTU_WIDTH_MOST], offset;
+    uint8_t start[3 + 8 * POLZAINTU_WIDTH_MOST] = {2, 8};
+    polzaintu_wall_new(&wall);
+    CHECK(polzaintu_wall_step(&wall, file.bytes, 27, row, 0, next, 0, &offset) == 0);
+    CHECK(polzaintu_wall_due(&wall) == sizeof start);
+    CHECK(polzaintu_wall_width(&wall) == POLZAINTU_WIDTH_MOST);
+    CHECK(polzaintu_wall_step(&wall, start, sizeof start, row, POLZAINTU_WIDTH_MOST, next,
+                              POLZAINTU_WIDTH_MOST, &offset) == 0);
+    CHECK(polzaintu_wall_due(&wall) == POLZAINTU_DUE_MOST);
+}
+
+void wall_tests(void) {
+    accepted_wall();
+    printed_seams();
+    faulty_tile();
+    most_bytes();
+    unfit_rows();
+    unfit_walls();
+    over();
+}

@@ -1,0 +1,253 @@
+//! The functions of the static library, as `bindings/c/polzaintu.h` declares them, each with a safe
+//! call. All unsafe code is in this file.
+//!
+//! Every function answers every input. What it asks of its caller is asked of pointers alone, and a
+//! safe call meets it: a reference or a slice, an empty one too, is not null, is aligned and
+//! reaches as far as its type or length says; what is behind a `&mut` overlaps nothing else that is
+//! lent, and nobody writes what is behind a `&`. A `bool` is 0 or 1. The structs are laid out as
+//! the header's (`repr(C)`, of 64-bit words and floating numbers), and no bits of theirs are
+//! invalid.
+#![allow(unsafe_code)]
+
+use crate::settings::Limits;
+use std::mem::size_of;
+
+/// A silent sender, as a stamp and as a link value.
+pub const SILENT: u64 = u64::MAX;
+
+/// What was lent fits no wall.
+pub const UNFIT: u32 = u32::MAX;
+
+/// Own's stamp, the neighbours', and how many of those there are.
+#[repr(C)]
+pub struct Stamps {
+    pub own: u64,
+    pub neighbours: [u64; 3],
+    pub count: u64,
+}
+
+/// P and the correction; `corrected` is 1, or 0 where there is none.
+#[repr(C)]
+#[derive(Default)]
+pub struct Forwarded {
+    pub p: i64,
+    pub correction: i64,
+    pub corrected: i64,
+}
+
+/// The earliest and latest time of a row.
+#[repr(C)]
+#[derive(Default)]
+pub struct Ends {
+    pub earliest: u64,
+    pub latest: u64,
+}
+
+/// The midpoint and the half gap of a closed seam.
+#[repr(C)]
+#[derive(Default)]
+pub struct Halves {
+    pub midpoint: f64,
+    pub half_gap: f64,
+}
+
+/// The reach of a broken tile, in ticks and columns.
+#[repr(C)]
+#[derive(Default)]
+pub struct Range {
+    pub ticks: u64,
+    pub first: u64,
+    pub last: u64,
+}
+
+/// How far a wall file has been taken.
+#[repr(C)]
+#[derive(Clone, Debug)]
+pub struct Wall {
+    pub stage: u64,
+    pub settings: Limits,
+    pub row: u64,
+    pub offset: u64,
+}
+
+const _: () = assert!(size_of::<usize>() == 8);
+const _: () = assert!(size_of::<Limits>() == 7 * 8);
+const _: () = assert!(size_of::<Stamps>() == 5 * 8);
+const _: () = assert!(size_of::<Forwarded>() == 3 * 8);
+const _: () = assert!(size_of::<Ends>() == 2 * 8);
+const _: () = assert!(size_of::<Halves>() == 2 * 8);
+const _: () = assert!(size_of::<Range>() == 3 * 8);
+const _: () = assert!(size_of::<Wall>() == 10 * 8);
+
+extern "C" {
+    fn polzaintu_settings_refusal(settings: *const Limits) -> u32;
+    fn polzaintu_tile(
+        settings: *const Limits,
+        stamps: *const Stamps,
+        answer: *mut Forwarded,
+    ) -> u32;
+    fn polzaintu_row(
+        settings: *const Limits,
+        before: *const u64,
+        before_len: usize,
+        marks: *const u8,
+        marks_len: usize,
+        drifts: *const u32,
+        drifts_len: usize,
+        links: *const u64,
+        links_len: usize,
+        times: *mut u64,
+        times_len: usize,
+        ends: *mut Ends,
+    ) -> u32;
+    fn polzaintu_seam(
+        left: u64,
+        left_faulty: bool,
+        right: u64,
+        right_faulty: bool,
+        side: *mut u32,
+        halves: *mut Halves,
+    ) -> u32;
+    fn polzaintu_widest_gap(
+        settings: *const Limits,
+        row: *const u64,
+        row_len: usize,
+        gap: *mut u64,
+    ) -> u32;
+    fn polzaintu_reach(
+        settings: *const Limits,
+        gap: u64,
+        rows: u64,
+        column: u64,
+        range: *mut Range,
+    ) -> u32;
+    fn polzaintu_wall_new(wall: *mut Wall);
+    fn polzaintu_wall_due(wall: *const Wall) -> usize;
+    fn polzaintu_wall_width(wall: *const Wall) -> usize;
+    fn polzaintu_wall_step(
+        wall: *mut Wall,
+        part: *const u8,
+        part_len: usize,
+        row: *const u64,
+        row_len: usize,
+        next: *mut u64,
+        next_len: usize,
+        offset: *mut u64,
+    ) -> u32;
+}
+
+pub fn settings_refusal(settings: &Limits) -> u32 {
+    // SAFETY: one struct behind a reference, read.
+    unsafe { polzaintu_settings_refusal(settings) }
+}
+
+pub fn tile(settings: &Limits, stamps: &Stamps, answer: &mut Forwarded) -> u32 {
+    // SAFETY: each struct is behind a reference; the answer, which is written, is behind a `&mut`.
+    unsafe { polzaintu_tile(settings, stamps, answer) }
+}
+
+pub fn row(
+    settings: &Limits,
+    before: &[u64],
+    marks: &[u8],
+    drifts: &[u32],
+    links: &[u64],
+    times: &mut [u64],
+    ends: &mut Ends,
+) -> u32 {
+    // SAFETY: each pointer is a slice's, with that slice's length, or a reference's; the times and
+    // the ends, which are written, are behind a `&mut`.
+    unsafe {
+        polzaintu_row(
+            settings,
+            before.as_ptr(),
+            before.len(),
+            marks.as_ptr(),
+            marks.len(),
+            drifts.as_ptr(),
+            drifts.len(),
+            links.as_ptr(),
+            links.len(),
+            times.as_mut_ptr(),
+            times.len(),
+            ends,
+        )
+    }
+}
+
+pub fn seam(
+    left: u64,
+    left_faulty: bool,
+    right: u64,
+    right_faulty: bool,
+    side: &mut u32,
+    halves: &mut Halves,
+) -> u32 {
+    // SAFETY: the side and the halves, which are written, are each behind a `&mut`; a Rust `bool`
+    // is 0 or 1.
+    unsafe { polzaintu_seam(left, left_faulty, right, right_faulty, side, halves) }
+}
+
+pub fn widest_gap(settings: &Limits, row: &[u64], gap: &mut u64) -> u32 {
+    // SAFETY: the row's pointer is a slice's, with its length; the gap, which is written, is behind
+    // a `&mut`.
+    unsafe { polzaintu_widest_gap(settings, row.as_ptr(), row.len(), gap) }
+}
+
+pub fn reach(settings: &Limits, gap: u64, rows: u64, column: u64, range: &mut Range) -> u32 {
+    // SAFETY: the settings are behind a reference; the range, which is written, is behind a `&mut`.
+    unsafe { polzaintu_reach(settings, gap, rows, column, range) }
+}
+
+pub fn wall_new() -> Wall {
+    let mut wall = Wall {
+        stage: 0,
+        settings: Limits {
+            width: 0,
+            rows: 0,
+            delay: 0,
+            uncertainty: 0,
+            hold: 0,
+            drift: 0,
+            unit: 0,
+        },
+        row: 0,
+        offset: 0,
+    };
+    // SAFETY: one struct behind a `&mut`, written.
+    unsafe { polzaintu_wall_new(&mut wall) };
+    wall
+}
+
+pub fn wall_due(wall: &Wall) -> usize {
+    // SAFETY: one struct behind a reference, read.
+    unsafe { polzaintu_wall_due(wall) }
+}
+
+pub fn wall_width(wall: &Wall) -> usize {
+    // SAFETY: one struct behind a reference, read.
+    unsafe { polzaintu_wall_width(wall) }
+}
+
+pub fn wall_step(
+    wall: &mut Wall,
+    part: &[u8],
+    row: &[u64],
+    next: &mut [u64],
+    offset: &mut u64,
+) -> u32 {
+    // SAFETY: each pointer is a slice's, with that slice's length, or a reference's; the wall, the
+    // next row and the offset, which are written, are each behind a `&mut`.
+    unsafe {
+        polzaintu_wall_step(
+            wall,
+            part.as_ptr(),
+            part.len(),
+            row.as_ptr(),
+            row.len(),
+            next.as_mut_ptr(),
+            next.len(),
+            offset,
+        )
+    }
+}

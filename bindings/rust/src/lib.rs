@@ -1,0 +1,47 @@
+//! The pulse planner for detector walls. The planner is written and proved in Rattle; this crate
+//! links its static library and gives each operation a safe call.
+//!
+//! A call or a file that is turned away answers a [`Refusal`], the lowest number that applies, and
+//! then every lent row holds what it held. Times, delays, stamps and gaps are in ticks. W, R, d, u,
+//! A, r and h are the settings ([`Limits`]).
+//!
+//! - [`Settings`]: checked settings of a wall.
+//! - [`tile::forward`]: what one tile forwards.
+//! - [`row::plan`]: a row's pulse times, from the row before.
+//! - [`seam::join`]: the midpoint and half gap of two neighbouring tiles.
+//! - [`reach`]: how far one broken tile reaches.
+//! - [`wall::Reader`]: the rows and seams of a wall file; [`wall::Wall`] takes one step by step.
+//!
+//! ```
+//! use polzaintu::row::{self, Lent};
+//! use polzaintu::seam::{self, Seam};
+//! use polzaintu::{Limits, Settings};
+//!
+//! let settings = Settings::new(Limits {
+//!     width: 6, rows: 1, delay: 100, uncertainty: 10, hold: 400, drift: 0, unit: 12,
+//! })?;
+//! let mut times = [0; 6];
+//! let ends = row::plan(&settings, Lent {
+//!     before: &[1000, 1000, 1000, 1080, 1000, 1000],
+//!     marks: &[0],
+//!     drifts: &[0; 6],
+//!     links: &[100; 20],
+//! }, &mut times)?;
+//! assert_eq!(times, [1500, 1500, 1500, 1536, 1500, 1500]);
+//! assert_eq!((ends.earliest, ends.latest), (1500, 1536));
+//! let seam = seam::join(Some(times[2]), Some(times[3]))?;
+//! assert_eq!(seam, Seam::Closed { midpoint: 1518.0, half_gap: 18.0 });
+//! # Ok::<(), polzaintu::Refusal>(())
+//! ```
+
+mod ffi;
+pub mod reach;
+mod refusal;
+pub mod row;
+pub mod seam;
+mod settings;
+pub mod tile;
+pub mod wall;
+
+pub use refusal::Refusal;
+pub use settings::{Limits, Settings};

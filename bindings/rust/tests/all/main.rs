@@ -1,0 +1,13 @@
+//! The safe interface against the static library: every number, the cases of the requirements, and
+//! every stored wall file.
+
+mod cases;
+mod common;
+mod reach;
+mod reader;
+mod refusal;
+mod row;
+mod seam;
+mod settings;
+mod tile;
+mod wall;

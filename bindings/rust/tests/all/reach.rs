@@ -1,0 +1,111 @@
+//! The reach of a broken tile: B of rows by hand, and ranges held against counted hops.
+
+use crate::common::{neighbours, settings, PRINTED};
+use polzaintu::reach::{reach, widest_gap, Reach};
+use polzaintu::Limits;
+
+const GAP_MOST: u64 = (1 << 41) - 1;
+
+#[test]
+fn gaps_by_hand() {
+    let settings = settings(PRINTED);
+    for (row, gap) in [
+        ([10, 20, 50, 40, 45, 50], 40),
+        ([50, 45, 40, 10, 20, 50], 40),
+        ([10, 20, 20, 51, 40, 45], 31),
+        ([0, 30, 10, 20, 10, 0], 30),
+        ([7; 6], 0),
+        ([0, 1, 2, 2, 2, u64::MAX], u64::MAX - 2),
+    ] {
+        assert_eq!(widest_gap(&settings, &row), Ok(gap), "{row:?}");
+    }
+    for length in [0, 5, 7] {
+        let refusal = widest_gap(&settings, &vec![7; length]).unwrap_err();
+        assert_eq!(refusal.number(), 21);
+    }
+}
+
+/// The fewest steps from neighbour to neighbour, to each column.
+fn hops(width: usize, from: usize) -> Vec<u64> {
+    let mut hops = vec![u64::MAX; width];
+    hops[from] = 0;
+    for n in 0..width as u64 {
+        for a in (0..width).filter(|&a| hops[a] == n).collect::<Vec<_>>() {
+            for b in (0..width).filter(|&b| b != a && neighbours(width, a, b)) {
+                hops[b] = hops[b].min(n + 1);
+            }
+        }
+    }
+    hops
+}
+
+#[test]
+fn ranges_are_the_columns_within_hops() {
+    for width in [6, 7, 9, 16] {
+        let settings = settings(Limits {
+            width,
+            rows: width,
+            ..PRINTED
+        });
+        let width = width as usize;
+        for column in 0..width {
+            let hops = hops(width, column);
+            for rows in 1..=width as u64 {
+                let Reach { ticks, columns } = reach(&settings, 1000, rows, column).unwrap();
+                assert_eq!(ticks, 2000 + 96 + (rows - 1));
+                for (c, &n) in hops.iter().enumerate() {
+                    assert_eq!(
+                        columns.contains(&c),
+                        n <= rows,
+                        "{width} {column} {rows} {c}"
+                    );
+                }
+            }
+        }
+    }
+}
+
+#[test]
+fn ranges_by_hand() {
+    let settings = settings(Limits {
+        width: 9,
+        rows: 1024,
+        ..PRINTED
+    });
+    let is = |gap, rows, column, ticks, columns| {
+        assert_eq!(
+            reach(&settings, gap, rows, column),
+            Some(Reach { ticks, columns })
+        );
+    };
+    is(60, 1, 4, 216, 3..=5);
+    is(60, 2, 4, 217, 2..=6);
+    is(60, 3, 4, 218, 0..=8);
+    is(60, 1, 0, 216, 0..=2);
+    is(60, 1, 2, 216, 0..=3);
+    is(60, 1, 6, 216, 5..=8);
+    is(60, 2, 8, 217, 5..=8);
+    is(0, 1024, 8, 96 + 1023, 0..=8);
+    is(GAP_MOST, 1, 0, 2 * GAP_MOST + 96, 0..=2);
+}
+
+#[test]
+fn outside_the_wall() {
+    let settings = settings(PRINTED);
+    assert!(reach(&settings, GAP_MOST, 1, 5).is_some());
+    for (gap, rows, column) in [
+        (0, 0, 0),
+        (0, 2, 0),
+        (0, u64::MAX, 0),
+        (0, 1, 6),
+        (0, 1, usize::MAX),
+        (GAP_MOST + 1, 1, 0),
+        (u64::MAX, 1, 0),
+    ] {
+        assert_eq!(
+            reach(&settings, gap, rows, column),
+            None,
+            "{gap} {rows} {column}"
+        );
+    }
+}

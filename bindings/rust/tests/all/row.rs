@@ -1,0 +1,235 @@
+//! A row: times worked out by hand, numbers 21 to 26 and the order between them.
+
+use crate::common::{hears, links, settings, PRINTED};
+use polzaintu::row::{self, Ends, Lent, SILENT};
+use polzaintu::Limits;
+
+const LATEST: u64 = (1 << 40) - 1;
+
+/// All that a call is lent.
+#[derive(Clone)]
+struct Call {
+    limits: Limits,
+    before: Vec<u64>,
+    marks: Vec<u8>,
+    drifts: Vec<u32>,
+    links: Vec<u64>,
+    times: Vec<u64>,
+}
+
+impl Call {
+    /// No faults: all times 1000, drifts 0, delays 100.
+    fn quiet(width: usize) -> Call {
+        Call {
+            limits: Limits {
+                width: width as u64,
+                ..PRINTED
+            },
+            before: vec![1000; width],
+            marks: vec![0; width.div_ceil(8)],
+            drifts: vec![0; width],
+            links: vec![100; 3 * width + 2],
+            times: (0..width as u64).map(|c| 0xa5a5 + 31 * c).collect(),
+        }
+    }
+
+    fn mark(&mut self, column: usize) {
+        self.marks[column / 8] |= 1 << (column % 8);
+    }
+
+    /// Marks a column, and has it send the same on each of its links.
+    fn fault(&mut self, column: usize, arrival: u64) {
+        self.mark(column);
+        for (value, (_, sender)) in self.links.iter_mut().zip(links(self.before.len())) {
+            if sender == column {
+                *value = arrival;
+            }
+        }
+    }
+
+    fn run(&self, times: &mut [u64]) -> Result<Ends, u32> {
+        let lent = Lent {
+            before: &self.before,
+            marks: &self.marks,
+            drifts: &self.drifts,
+            links: &self.links,
+        };
+        row::plan(&settings(self.limits), lent, times).map_err(|refusal| refusal.number())
+    }
+
+    fn planned(&self, expected: &[u64], earliest: u64, latest: u64) {
+        let mut times = self.times.clone();
+        assert_eq!(self.run(&mut times), Ok(Ends { earliest, latest }));
+        assert_eq!(times, expected);
+    }
+
+    fn accepted(&self) {
+        assert!(self.run(&mut self.times.clone()).is_ok());
+    }
+
+    /// The call is turned away, and the row to be written holds what it held.
+    fn refused(&self, number: u32) {
+        let mut times = self.times.clone();
+        assert_eq!(self.run(&mut times), Err(number));
+        assert_eq!(times, self.times);
+    }
+}
+
+#[test]
+fn printed_wall() {
+    let mut call = Call::quiet(6);
+    call.before[3] = 1080;
+    call.planned(&[1500, 1500, 1500, 1536, 1500, 1500], 1500, 1536);
+}
+
+/// A clock of drift 10,000 reads 1111 at 1100, and first reads 1511 at 1497.
+#[test]
+fn drifts_round() {
+    let mut call = Call::quiet(6);
+    call.limits = Limits {
+        drift: 10_000,
+        unit: 16,
+        ..PRINTED
+    };
+    call.drifts[1] = 10_000;
+    call.drifts[5] = 10_000;
+    call.planned(&[1500, 1497, 1500, 1500, 1500, 1497], 1497, 1500);
+}
+
+/// Column 3 is heard by tiles 2 to 5.
+#[test]
+fn faults() {
+    let mut call = Call::quiet(6);
+    call.before[3] = u64::MAX;
+    for late in [SILENT, LATEST] {
+        call.fault(3, late);
+        call.planned(&[1500, 1500, 1500, 1536, 1500, 1500], 1500, 1536);
+    }
+    call.fault(3, 0);
+    call.planned(&[1500, 1500, 1476, 1464, 1476, 1476], 1464, 1500);
+}
+
+#[test]
+fn wrong_lengths() {
+    fn tried<T: Clone>(call: &mut Call, row: fn(&mut Call) -> &mut Vec<T>) {
+        let right = row(call).clone();
+        row(call).pop();
+        call.refused(21);
+        *row(call) = [&right[..], &right[..1]].concat();
+        call.refused(21);
+        row(call).clear();
+        call.refused(21);
+        *row(call) = right;
+        call.accepted();
+    }
+    for width in [6, 9] {
+        let call = &mut Call::quiet(width);
+        tried(call, |call| &mut call.before);
+        tried(call, |call| &mut call.marks);
+        tried(call, |call| &mut call.drifts);
+        tried(call, |call| &mut call.links);
+        tried(call, |call| &mut call.times);
+    }
+}
+
+#[test]
+fn stray_marks() {
+    for width in [6usize, 9, 15] {
+        for column in width..width.next_multiple_of(8) {
+            let mut call = Call::quiet(width);
+            call.mark(column);
+            call.refused(22);
+        }
+    }
+}
+
+#[test]
+fn late_times() {
+    for column in 0..9 {
+        let mut call = Call::quiet(9);
+        call.before[column] = LATEST;
+        call.accepted();
+        for late in [LATEST + 1, u64::MAX] {
+            call.before[column] = late;
+            call.refused(23);
+        }
+        call.fault(column, SILENT);
+        call.accepted();
+    }
+}
+
+/// Two faulty tiles: 24 where some tile hears both.
+#[test]
+fn crowded() {
+    for width in [6, 9, 17] {
+        for (a, b) in (0..width).flat_map(|b| (0..b).map(move |a| (a, b))) {
+            let mut call = Call::quiet(width);
+            call.fault(a, SILENT);
+            call.fault(b, SILENT);
+            if (0..width).any(|tile| hears(width, tile, a) && hears(width, tile, b)) {
+                call.refused(24);
+            } else {
+                call.accepted();
+            }
+        }
+    }
+}
+
+#[test]
+fn fast_drifts() {
+    for column in 0..9 {
+        let mut call = Call::quiet(9);
+        call.limits = Limits {
+            drift: 100,
+            unit: 13,
+            ..call.limits
+        };
+        call.drifts[column] = 100;
+        call.accepted();
+        for fast in [101, u32::MAX] {
+            call.drifts[column] = fast;
+            call.refused(25);
+        }
+    }
+}
+
+#[test]
+fn bad_links() {
+    for place in 0..3 * 9 + 2 {
+        let mut call = Call::quiet(9);
+        call.links[place] = 90;
+        call.accepted();
+        for bad in [89, 101, 0, SILENT, LATEST] {
+            call.links[place] = bad;
+            call.refused(26);
+        }
+    }
+    for column in 0..9 {
+        let mut call = Call::quiet(9);
+        call.fault(column, LATEST);
+        call.accepted();
+        for late in [LATEST + 1, SILENT - 1] {
+            call.fault(column, late);
+            call.refused(26);
+        }
+    }
+}
+
+/// Each fault is added to those of higher numbers.
+#[test]
+fn lowest_applies() {
+    let mut call = Call::quiet(9);
+    call.links[0] = 101;
+    call.refused(26);
+    call.drifts[8] = 1;
+    call.refused(25);
+    call.mark(4);
+    call.mark(5);
+    call.refused(24);
+    call.before[8] = LATEST + 1;
+    call.refused(23);
+    call.mark(15);
+    call.refused(22);
+    call.links.pop();
+    call.refused(21);
+}

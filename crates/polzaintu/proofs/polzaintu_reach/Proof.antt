@@ -1,0 +1,53 @@
+-- `polzaintu_reach` meets its contract. Assumes nothing.
+use mathlib.Core.Path.{_≡_, sym, _∙_, ap}
+use Rattle.rule.specs.declared.settings.Settings.{Settings}
+use Rattle.reach.specs.Search.{reach-of}
+use Rattle.polzaintu.specs.Words.{settings-from}
+use Rattle.polzaintu.specs.Answers.{reach-number, reach-left}
+use borrow.Author.Needs.{needs}
+use Rattle.polzaintu.proofs.polzaintu_reach.Statement.{statement}
+use Rattle.polzaintu.proofs.polzaintu_reach.Tie as tie
+
+-- the operation's answer
+answer : (c : tie.After-reach) → let a = c .before .before .args in c .reach .result ≡ reach-of (settings-from 0 (a .settings .now)) (a .gap) (a .rows) (a .column)
+answer c = let a = c .before .before .args in c .reach .ensures ∙ ap (λ (s : Settings). reach-of s (a .gap) (a .rows) (a .column)) (c .before .settings-in .ensures)
+
+settings-in-requires : tie.Need-settings-in-requires
+settings-in-requires c κs = search needs
+
+reach-requires : tie.Need-reach-requires
+reach-requires c κs = search needs
+
+enum-known-within : tie.Need-enum-known-within
+enum-known-within c = search needs
+
+enum-told : tie.Need-enum-told
+enum-told c = search needs
+
+enum-known-number : tie.Need-enum-known-number
+enum-known-number c = search needs
+
+returns : tie.Need-returns
+unfolding reach-number reach-left
+returns c = let e = sym (answer (c .before .before .before .before)) ∙ c .before .before .within .given .1 in (sym (rw e), sym (rw e))
+
+returns-2 : tie.Need-returns-2
+unfolding reach-number reach-left
+returns-2 c = let e = sym (answer (c .before .before)) ∙ c .enum-told .given .1 in (sym (rw e), sym (rw e))
+
+returns-3 : tie.Need-returns-3
+unfolding reach-number reach-left
+returns-3 c = let e = sym (answer (c .before .before .before)) ∙ c .before .number .given .1 in (sym (rw e), sym (rw e))
+
+pub polzaintu-reach-spec : {M : Type 1} → statement M
+polzaintu-reach-spec =
+    tie.close
+    (tie.spec
+    settings-in-requires
+    reach-requires
+    enum-known-within
+    enum-told
+    enum-known-number
+    returns
+    returns-2
+    returns-3)

@@ -1,0 +1,72 @@
+-- Structs as words, in the order of the header's fields. Assumes nothing.
+use mathlib.Core.Bool.{cond}
+use mathlib.Core.List.{List, [], _∷_}
+use Prim.Native.Nat.{ℕ, _+_}
+use lib.Dec.{eqb, ltb}
+use lib.IntN.{ℤ, pos}
+use lib.ListN.{getD}
+use Rattle.rule.specs.Settings.{settings}
+use Rattle.rule.specs.declared.settings.Settings.{Settings}
+use Rattle.rule.specs.declared.tile.Stamps.{Stamps}
+use Rattle.seam.specs.declared.Side.{Side}
+use Rattle.seam.specs.declared.Side.the-variants.{Left, Right, Both}
+use Rattle.wall.specs.Step.{place}
+use Rattle.wall.specs.declared.Place.{Place}
+use Rattle.wall.specs.declared.Wall.{Wall}
+use Rattle.wall.specs.declared.Wall.the-variants.{New, Start, Row, End, Over}
+
+-- from the word k on: W, R, d, u, A, r, h
+unfoldable pub settings-from : (k : ℕ) → (words : List ℕ) → Settings
+settings-from k ws =
+    settings (getD ws k 0) (getD ws (k + 1) 0) (getD ws (k + 2) 0) (getD ws (k + 3) 0) (getD ws (k + 4) 0) (getD ws (k + 5) 0) (getD ws (k + 6) 0)
+
+-- own, three neighbour places and a count; "2^64 - 1 is silent". A stamp over 2^41 is taken as 2^41, and a count over 4 as 4: both
+-- are turned away all the same.
+abbrev pub silent-word : ℕ
+silent-word = 18446744073709551615
+
+unfoldable pub at-most : (most word : ℕ) → ℕ
+at-most m n = cond (ltb n m) n m
+
+-- the first stamp that is too late
+abbrev pub first-late : ℕ
+first-late = 2199023255552
+
+unfoldable pub stamp-in : (word : ℕ) → ℤ
+stamp-in n = pos (at-most first-late n)
+
+unfoldable pub stamps-in : (words : List ℕ) → Stamps
+stamps-in ws =
+    record {
+      at = stamp-in (getD ws 0 0) ∷ stamp-in (getD ws 1 0) ∷ stamp-in (getD ws 2 0) ∷ stamp-in (getD ws 3 0) ∷ [];
+      silent = eqb (getD ws 0 0) silent-word ∷ eqb (getD ws 1 0) silent-word ∷ eqb (getD ws 2 0) silent-word ∷ eqb (getD ws 3 0) silent-word ∷ [];
+      count = at-most 4 (getD ws 4 0);
+    }
+
+unfoldable pub side-word : Side → ℕ
+side-word Left = 1
+side-word Right = 2
+side-word Both = 3
+
+-- a wall: its stage, settings, last row and bytes taken
+unfoldable pub place-in : (words : List ℕ) → Place
+place-in ws = place (settings-from 1 ws) (getD ws 8 0) (getD ws 9 0)
+
+unfoldable pub staged : (stage : ℕ) → Place → Wall
+staged n p = cond (eqb n 0) New (cond (eqb n 1) (Start p) (cond (eqb n 2) (Row p) (cond (eqb n 3) (End p) Over)))
+
+unfoldable pub wall-in : (words : List ℕ) → Wall
+wall-in ws = staged (getD ws 0 0) (place-in ws)
+
+unfoldable pub place-words : (stage : ℕ) → Place → List ℕ
+place-words n p =
+    let s = p .settings in
+    n ∷ s .width ∷ s .rows ∷ s .delay ∷ s .uncertainty ∷ s .hold ∷ s .drift ∷ s .unit ∷ p .row ∷ p .offset ∷ []
+
+-- the place is that of a wall that has none of its own
+unfoldable pub wall-words : Wall → Place → List ℕ
+wall-words New p = place-words 0 p
+wall-words (Start q) p = place-words 1 q
+wall-words (Row q) p = place-words 2 q
+wall-words (End q) p = place-words 3 q
+wall-words Over p = place-words 4 p

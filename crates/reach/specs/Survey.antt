@@ -1,0 +1,57 @@
+-- The largest reach over a wall: its rows are gone through in their order, from row 0 to the last but one. Assumes nothing.
+use mathlib.Core.Path.{_≡_}
+use mathlib.Core.List.{List, [], _∷_}
+use Prim.Native.Nat.{ℕ, suc, _-_, _≤_, _<_, max}
+use lib.ListN.{length, getD, take}
+use Rattle.rule.specs.Settings.{settings-refusal}
+use Rattle.rule.specs.Tile.{latest-stamp}
+use Rattle.rule.specs.declared.settings.Settings.{Settings}
+use Rattle.row.specs.Call.{Call}
+use Rattle.row.specs.Run.{taken, rows, row-at}
+use Rattle.row.specs.Reach.{Alike, apart, widest-gap}
+use Rattle.reach.specs.Search.{gap-of, reach-of, reach-ticks}
+use Rattle.reach.specs.declared.Gap.{Gap}
+use Rattle.reach.specs.declared.Gap.the-variants as gap
+use Rattle.reach.specs.declared.Reached.{Reached}
+use Rattle.reach.specs.declared.Reached.the-variants as reached
+use Rattle.reach.specs.declared.survey.Surveyed.{Surveyed}
+use Rattle.reach.specs.declared.survey.Surveyed.the-variants as surveyed
+
+-- row l, with the largest reach of the rows before it: its own is that in the last row, R - l rows later
+unfoldable pub with-reach : (gap largest : ℕ) → Reached → Surveyed
+with-reach b m (reached.Within r) = surveyed.Row b (max m (r .ticks))
+with-reach b m reached.Outside = surveyed.Outside
+with-reach b m (reached.Refused n) = surveyed.Refused n
+
+unfoldable pub with-gap : Settings → (l largest : ℕ) → Gap → Surveyed
+with-gap s l m (gap.Widest b) = with-reach b m (reach-of s b (s .rows - l) 0)
+with-gap s l m (gap.Refused n) = surveyed.Refused n
+
+unfoldable pub surveyed-of : Settings → (l largest : ℕ) → (row : List ℕ) → Surveyed
+surveyed-of s l m ts = with-gap s l m (gap-of s ts)
+
+-- the reach of a row l in the last row
+unfoldable pub last-reach : Settings → (l : ℕ) → (row : List ℕ) → ℕ
+last-reach s l ts = reach-ticks s (widest-gap (s .width) ts) (s .rows - l)
+
+-- the largest reach of rows from row l on
+unfoldable pub largest-of : Settings → (l largest : ℕ) → (rows : List (List ℕ)) → ℕ
+largest-of s l m [] = m
+largest-of s l m (ts ∷ rs) = largest-of s (suc l) (max m (last-reach s l ts)) rs
+
+-- each row of a wall is surveyed: its times are those of W tiles, below 2^41
+unfoldable pub Row-surveyed : Type 0
+Row-surveyed =
+    (s : Settings) (l m : ℕ) (ts : List ℕ) → settings-refusal s ≡ 0 → l < s .rows → length ts ≡ s .width →
+    ((c : ℕ) → c < s .width → getD ts c 0 ≤ latest-stamp) →
+    surveyed-of s l m ts ≡ surveyed.Row (widest-gap (s .width) ts) (max m (last-reach s l ts))
+
+-- the number that a search range is set to: of two runs as in demand 3, no pulse differs by more than the largest reach over rows
+-- 0 to R - 1 of the run without faults
+unfoldable pub Largest-enough : Type 0
+Largest-enough =
+    (s : Settings) (ts : List ℕ) (xs ys : List Call) (f k l c : ℕ) → settings-refusal s ≡ 0 → length ts ≡ s .width → k < s .width →
+    length (rows s xs ts) ≡ s .rows → length (rows s ys ts) ≡ s .rows → f < s .rows → Alike (s .width) f k (taken s xs ts) (taken s ys ts) →
+    l ≤ s .rows → c < s .width →
+    apart (getD (row-at ts (rows s xs ts) l) c 0) (getD (row-at ts (rows s ys ts) l) c 0)
+    ≤ largest-of s 0 0 (take (s .rows) (ts ∷ rows s xs ts))

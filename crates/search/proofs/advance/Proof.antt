@@ -1,0 +1,95 @@
+-- `advance` meets its contract. Assumes nothing.
+use mathlib.Core.Path.{_≡_, sym, _∙_}
+use lib.ListN.{length, take}
+use lib.Seq.{length-take-le}
+use native.Mathlib.Omega.{arith}
+use Rattle.search.proofs.Laws.Moved.{moved}
+use borrow.Author.Needs.{needs}
+use Rattle.search.proofs.advance.Statement.{statement}
+use Rattle.search.proofs.advance.Tie as tie
+
+-- the start of the function, and the rows' lengths
+abbrev start : tie.After-width → tie.Start
+start c = c .before .before .before .before .before .before .before .before .before .before
+
+row-long : (c : tie.After-width) → length (take (c .width .result) (start c .args .row .now)) ≡ c .width .result
+row-long c = length-take-le _ (start c .args .row .now) (omega (arith, c .width .ensures .1, start c .pre .1))
+
+next-long : (c : tie.After-width) → length (take (c .width .result) (start c .args .next .now)) ≡ c .width .result
+next-long c = length-take-le _ (start c .args .next .now) (omega (arith, c .width .ensures .1, start c .pre .2))
+
+due-requires : tie.Need-due-requires
+due-requires c κs = search needs
+
+part-end-requires : tie.Need-part-end-requires
+part-end-requires c κs = search needs
+
+width-requires : tie.Need-width-requires
+width-requires c κs = search needs
+
+sub-step : tie.Need-sub-step
+sub-step c = search needs
+
+part-step-start : tie.Need-part-step-start
+part-step-start c = search needs
+
+part-step-end : tie.Need-part-step-end
+part-step-end c = search needs
+
+slice-relend-prefix-step : tie.Need-slice-relend-prefix-step
+slice-relend-prefix-step c = search needs
+
+slice-aggregate-step : tie.Need-slice-aggregate-step
+slice-aggregate-step c = sym (row-long (c .before .before))
+
+slice-relend-prefix-step-2 : tie.Need-slice-relend-prefix-step-2
+slice-relend-prefix-step-2 c = search needs
+
+slice-aggregate-step-2 : tie.Need-slice-aggregate-step-2
+slice-aggregate-step-2 c = sym (next-long (c .before .before .before))
+
+step-requires : tie.Need-step-requires
+step-requires c κs =
+    let w = c .before .before .before .before in
+    let s = start w in
+    let wide = w .width .ensures in
+    ((s .pre .0 .stands, s .pre .3), (row-long w ∙ wide .0, next-long w ∙ wide .0, omega (arith, row-long w, wide .1)))
+
+same-length : tie.Need-same-length
+same-length c = search needs
+
+same-length-2 : tie.Need-same-length-2
+same-length-2 c = search needs
+
+same-length-3 : tie.Need-same-length-3
+same-length-3 c = search needs
+
+returns : tie.Need-returns
+returns c =
+    let f = c .before .before .before .before .before .before in
+    let w = f .before .before .before .before .before in
+    let e = w .before in
+    let s = start w in
+    let a = s .args in
+    moved _ (a .search) (a .input .now) (a .row .now) (a .next .now) (a .output .now) (s .pre .0 .within) (e .before .due .result) (e .part-end .result) (w .width .result)
+    (e .before .due .ensures .0) (e .part-end .ensures) (w .width .ensures .0) (f .step .kept .1 .1 .1 .0 ∙ row-long w) (f .step .ensures)
+
+pub advance-spec : {M : Type 1} → statement M
+advance-spec =
+    tie.close
+    (tie.spec
+    due-requires
+    part-end-requires
+    width-requires
+    sub-step
+    part-step-start
+    part-step-end
+    slice-relend-prefix-step
+    slice-aggregate-step
+    slice-relend-prefix-step-2
+    slice-aggregate-step-2
+    step-requires
+    same-length
+    same-length-2
+    same-length-3
+    returns)

@@ -1,0 +1,83 @@
+-- `step` meets its contract. Assumes nothing.
+use mathlib.Core.Path.{refl, _∙_}
+use Rattle.wall.proofs.Laws.Fit.{takes-both}
+use Rattle.wall.proofs.Laws.Taken.{Took-step, took-step}
+use Rattle.search.proofs.Laws.Moved.{never-unfit}
+use borrow.Author.Needs.{needs}
+use Rattle.search.proofs.step.Statement.{statement}
+use Rattle.search.proofs.step.Tie as tie
+
+-- the wall's step, and the start of the function
+abbrev take : tie.After-took → tie.After-take
+take c = c .before .before .before .before
+
+abbrev start : tie.After-take → tie.Start
+start c = c .before .before .before .before .before .before .before .before .before .before
+
+taken : (c : tie.After-took) →
+    let a = start (take c) .args in
+    Took-step (a .search .state .wall) (a .part .now) (a .row .now) (a .next .now) (c .took .given .0 .0) (take c .take .last .1 .1 .1 .0)
+taken c = took-step (take c .take .ensures) (c .took .given .1)
+
+take-requires : tie.Need-take-requires
+take-requires c κs = search needs
+
+enum-known-took : tie.Need-enum-known-took
+enum-known-took c = search needs
+
+tell-requires : tie.Need-tell-requires
+tell-requires c κs =
+    let t = c .before .before .before in
+    let k = taken t in
+    (takes-both _ _ _ (k .fits) .0, k .is, start (take t) .pre .0 .1)
+
+copy-requires : tie.Need-copy-requires
+copy-requires c κs = search needs
+
+enum-told : tie.Need-enum-told
+enum-told c = search needs
+
+same-length : tie.Need-same-length
+same-length c = search needs
+
+same-length-2 : tie.Need-same-length-2
+same-length-2 c = search needs
+
+same-length-3 : tie.Need-same-length-3
+same-length-3 c = search needs
+
+returns : tie.Need-returns
+returns c =
+    let f = c .before .before .before .before .before .before .before in
+    let t = f .before .before .before .before in
+    let said = f .tell .ensures in
+    record { wall = said .wall; largest = said .largest; text = said .text; row = c .before .before .copy .ensures ∙ taken t .written; window = refl }
+
+same-length-4 : tie.Need-same-length-4
+same-length-4 c = search needs
+
+same-length-5 : tie.Need-same-length-5
+same-length-5 c = search needs
+
+returns-2 : tie.Need-returns-2
+returns-2 c =
+    let t = c .before .before .before .before in
+    let s = start t in
+    absurd (never-unfit (s .pre .0 .0) (s .pre .1 .0) (s .pre .1 .1) (t .take .ensures) (c .enum-told .given .1))
+
+pub step-spec : {M : Type 1} → statement M
+step-spec =
+    tie.close
+    (tie.spec
+    take-requires
+    enum-known-took
+    tell-requires
+    copy-requires
+    enum-told
+    same-length
+    same-length-2
+    same-length-3
+    returns
+    same-length-4
+    same-length-5
+    returns-2)

@@ -1,0 +1,5 @@
+pub mod Text
+pub mod Telling
+pub mod File
+pub mod Moved
+pub mod Promises

@@ -1,0 +1,96 @@
+//! `walldiff PROGRAM COUNT FIRST_SEED` runs PROGRAM on the wall files of COUNT seeds and compares
+//! every byte of its standard output, how it ended and whether it complained with the reference. It
+//! stops at the first difference. `walldiff --reach PROGRAM COUNT FIRST_SEED` does so for `wallreach`.
+
+mod counts;
+mod reach;
+mod report;
+mod run;
+mod wall;
+
+use std::io;
+use std::process::ExitCode;
+
+use run::{run, Ended};
+use wall_reference::generate;
+
+/// From so many walls on, all that the seeds are made to reach must have been reached.
+const MANY: u64 = 10_000;
+
+/// Where the wall file of a difference is saved.
+const SAVED: &str = "differs.wall";
+
+/// A program of the reference that another is held against. It counts what is compared.
+trait Reference {
+    /// The arguments that go with the wall file of a seed.
+    fn arguments(&self, seed: u64) -> Vec<String>;
+
+    /// What a program should do for them; counted.
+    fn due(&mut self, arguments: &[String], file: &[u8]) -> io::Result<Ended>;
+
+    /// Prints what was compared.
+    fn print(&self);
+
+    /// What was never met, of all that the seeds are made to reach.
+    fn missing(&self) -> Vec<String>;
+}
+
+fn main() -> ExitCode {
+    let arguments: Vec<String> = std::env::args().skip(1).collect();
+    let arguments: Vec<&str> = arguments.iter().map(String::as_str).collect();
+    match *arguments.as_slice() {
+        ["--reach", program, count, first] => {
+            held_against(reach::Wallreach::default(), program, count, first)
+        }
+        [program, count, first] => held_against(wall::Wallrun::default(), program, count, first),
+        _ => usage(),
+    }
+}
+
+fn usage() -> ExitCode {
+    eprintln!("usage: walldiff [--reach] PROGRAM COUNT FIRST_SEED");
+    ExitCode::from(2)
+}
+
+fn held_against(reference: impl Reference, program: &str, count: &str, first: &str) -> ExitCode {
+    let (Ok(count), Ok(first)) = (count.parse(), first.parse()) else {
+        return usage();
+    };
+    match compare_all(reference, program, count, first) {
+        Ok(true) => ExitCode::SUCCESS,
+        Ok(false) => ExitCode::FAILURE,
+        Err(error) => {
+            eprintln!("walldiff: {program}: {error}");
+            ExitCode::from(2)
+        }
+    }
+}
+
+/// Compares all seeds and prints the counts; true where all is well.
+fn compare_all(
+    mut reference: impl Reference,
+    program: &str,
+    count: u64,
+    first: u64,
+) -> io::Result<bool> {
+    for seed in (0..count).map(|i| first.wrapping_add(i)) {
+        let file = generate::file(seed);
+        let arguments = reference.arguments(seed);
+        let due = reference.due(&arguments, &file)?;
+        let given = run(program, &arguments, &file)?;
+        if given != due {
+            report::difference(seed, &arguments, &due, &given);
+            std::fs::write(SAVED, &file)?;
+            println!("the wall file is saved as {SAVED}");
+            return Ok(false);
+        }
+    }
+    reference.print();
+    let missing = reference.missing();
+    if count >= MANY && !missing.is_empty() {
+        println!("never met: {}", missing.join("; "));
+        return Ok(false);
+    }
+    println!("no difference in {count} walls, seeds from {first}");
+    Ok(true)
+}

@@ -1,0 +1,111 @@
+//! `wallreach`: the rows it is asked for, what it should print, and counts of what was compared.
+
+use std::io;
+
+use crate::counts::{line, Refusals};
+use crate::run::Ended;
+use crate::Reference;
+use wall_reference::generate::rng::Rng;
+use wall_reference::reach::{rows_asked, wallreach, Outcome, MOST_ASKED};
+
+#[derive(Default)]
+pub struct Wallreach {
+    walls: u64,
+    whole: u64,
+    faulty: u64,
+    bad_arguments: u64,
+    b_lines: u64,
+    r_lines: u64,
+    bytes: u64,
+    refusals: Refusals,
+}
+
+/// Arguments that are no row from 1 to 1,024.
+const BAD: [&str; 8] = [
+    "",
+    "0",
+    "1025",
+    "-1",
+    "x",
+    "12x",
+    "4294967297",
+    "18446744073709551617",
+];
+
+impl Reference for Wallreach {
+    /// A few rows, most often small ones; now and then as many as may be asked for, one more, or a bad one
+    /// among them.
+    fn arguments(&self, seed: u64) -> Vec<String> {
+        let mut rng = Rng::new(!seed);
+        let count = rng.pick(&[0, 1, 2, 3, 3, 4, 5, MOST_ASKED]);
+        let most = rng.pick(&[6, 6, 40, 1_024]);
+        let mut arguments: Vec<String> = (0..count)
+            .map(|_| rng.spread(1, most).to_string())
+            .collect();
+        match rng.below(50) {
+            0 => {
+                let bad = rng.pick(&BAD).to_string();
+                arguments.insert(rng.index(count + 1), bad);
+            }
+            1 => arguments.resize(MOST_ASKED + 1, "1".into()),
+            2..=4 => arguments.push("1024".into()),
+            _ => {}
+        }
+        arguments
+    }
+
+    fn due(&mut self, arguments: &[String], file: &[u8]) -> io::Result<Ended> {
+        let Some(asked) = rows_asked(arguments) else {
+            self.bad_arguments += 1;
+            return Ok(Ended {
+                printed: Vec::new(),
+                complained: true,
+                well: true,
+            });
+        };
+        let mut printed = Vec::new();
+        self.walls += 1;
+        match wallreach(file, &asked, &mut printed)? {
+            Outcome::Whole => self.whole += 1,
+            Outcome::Faulty => self.faulty += 1,
+            Outcome::Refused(refused) => self.refusals.add(refused),
+        }
+        self.add_lines(&printed);
+        Ok(Ended::well(printed))
+    }
+
+    fn print(&self) {
+        line("walls", self.walls);
+        line("  without faults", self.whole);
+        line("  faulty", self.faulty);
+        line("bad arguments", self.bad_arguments);
+        line("b lines", self.b_lines);
+        line("r lines", self.r_lines);
+        line("bytes compared", self.bytes);
+        self.refusals.print();
+    }
+
+    fn missing(&self) -> Vec<String> {
+        let mut missing = self.refusals.missing();
+        for (count, name) in [
+            (self.whole, "a wall without faults"),
+            (self.faulty, "a faulty wall"),
+            (self.bad_arguments, "a bad argument"),
+            (self.r_lines, "an r line"),
+        ] {
+            if count == 0 {
+                missing.push(name.into());
+            }
+        }
+        missing
+    }
+}
+
+impl Wallreach {
+    fn add_lines(&mut self, printed: &[u8]) {
+        self.bytes += printed.len() as u64;
+        let lines = || printed.split(|&byte| byte == b'\n');
+        self.b_lines += lines().filter(|line| line.starts_with(b"b ")).count() as u64;
+        self.r_lines += lines().filter(|line| line.starts_with(b"r ")).count() as u64;
+    }
+}

@@ -1,0 +1,117 @@
+//! `wallrun`: what it should print for a wall file, and counts of what the compared walls held.
+
+use std::collections::BTreeMap;
+use std::io;
+
+use crate::counts::{line, Refusals};
+use crate::run::Ended;
+use crate::Reference;
+use wall_reference::file::{walk, ShownRow};
+use wall_reference::generate::ends::ENDS;
+use wall_reference::generate::kind::{kind, Kind};
+use wall_reference::print::wallrun;
+use wall_reference::shape::is_marked;
+
+#[derive(Default)]
+pub struct Wallrun {
+    walls: u64,
+    accepted: u64,
+    /// Accepted walls at each of `ENDS`.
+    at_ends: [u64; ENDS.len()],
+    /// Tiles printed.
+    tiles: u64,
+    /// Faulty tiles by what they send, those of row 0 among them, which is not printed.
+    faulty: BTreeMap<Kind, u64>,
+    closed: u64,
+    open: u64,
+    bytes: u64,
+    refusals: Refusals,
+}
+
+impl Reference for Wallrun {
+    fn arguments(&self, _: u64) -> Vec<String> {
+        Vec::new()
+    }
+
+    fn due(&mut self, _: &[String], file: &[u8]) -> io::Result<Ended> {
+        let mut printed = Vec::new();
+        let refused = wallrun(file, &mut printed)?;
+        self.walls += 1;
+        self.bytes += printed.len() as u64;
+        match refused {
+            None => self.accepted += 1,
+            Some(refused) => self.refusals.add(refused),
+        }
+        self.add_rows(file);
+        self.add_lines(&printed);
+        Ok(Ended::well(printed))
+    }
+
+    fn print(&self) {
+        line("walls", self.walls);
+        line("  accepted", self.accepted);
+        for ((name, _), count) in ENDS.iter().zip(self.at_ends) {
+            line(&format!("    {name}"), count);
+        }
+        line("tiles", self.tiles);
+        line("faulty tiles", self.faulty.values().sum());
+        for (kind, count) in &self.faulty {
+            line(&format!("  {}", name(*kind)), *count);
+        }
+        line("seams closed", self.closed);
+        line("seams open", self.open);
+        line("bytes compared", self.bytes);
+        self.refusals.print();
+    }
+
+    fn missing(&self) -> Vec<String> {
+        let mut missing = self.refusals.missing();
+        let ends = ENDS.iter().zip(self.at_ends);
+        missing.extend(ends.filter(|(_, n)| *n == 0).map(|(end, _)| end.0.into()));
+        let kinds = Kind::ALL.into_iter();
+        let never = kinds.filter(|kind| !self.faulty.contains_key(kind));
+        missing.extend(never.map(|kind| name(kind).into()));
+        missing
+    }
+}
+
+impl Wallrun {
+    /// Counts the faulty tiles and, at row R of an accepted wall, the ends at which its settings stand.
+    fn add_rows(&mut self, file: &[u8]) {
+        let add = |row: ShownRow| {
+            let numbers = row.wall.settings().numbers();
+            if row.number == row.wall.settings().rows() {
+                for ((_, stands_at), count) in ENDS.iter().zip(&mut self.at_ends) {
+                    *count += u64::from(stands_at(&numbers));
+                }
+            }
+            let columns = 0..row.wall.shape().columns();
+            for column in columns.filter(|&column| is_marked(row.marks, column)) {
+                *self.faulty.entry(kind(&row, column)).or_default() += 1;
+            }
+            Ok::<(), ()>(())
+        };
+        // That the file is refused was counted already.
+        let _ = walk(file, add);
+    }
+
+    fn add_lines(&mut self, printed: &[u8]) {
+        for line in printed.split(|&byte| byte == b'\n') {
+            match line.first() {
+                Some(b't') => self.tiles += 1,
+                Some(b's') if line.windows(5).any(|part| part == b" open") => self.open += 1,
+                Some(b's') => self.closed += 1,
+                _ => {}
+            }
+        }
+    }
+}
+
+fn name(kind: Kind) -> &'static str {
+    match kind {
+        Kind::Silent => "silent",
+        Kind::Early => "early",
+        Kind::Late => "late",
+        Kind::Other => "near or mixed",
+    }
+}
