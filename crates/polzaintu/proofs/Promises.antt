@@ -7,13 +7,14 @@ use lib.Dec.{eqb, ltb}
 use lib.ListN.{getD}
 use native.Mathlib.Omega.{arith}
 use borrow.Author.Tests.{lt-ltb, le-ltb, ltb-false}
-use Rattle.rule.specs.Refusal.{outside}
-use Rattle.rule.specs.Settings.{settings}
+use Rattle.settings.specs.Refusal.{outside}
+use Rattle.settings.specs.Settings.{settings}
 use Rattle.rule.specs.Signed.{natural}
-use Rattle.rule.specs.Tile.{latest-stamp, silent-at, reading-at, stamp-from, stamp-at, late-from, late-at}
-use Rattle.rule.proofs.Laws.Cases.{by-order}
-use Rattle.wall.specs.Step.{place}
-use Rattle.wall.specs.declared.Wall.the-variants.{New, Start, Row, End, Over}
+use Rattle.rule.specs.Stamp.{latest-stamp}
+use Rattle.tile.specs.Tile.{silent-at, reading-at, stamp-from, stamp-at, late-from, late-at}
+use Rattle.settings.proofs.Laws.Cases.{by-order}
+use Rattle.steps.specs.Step.{place}
+use Rattle.steps.specs.declared.Wall.the-variants.{New, Start, Row, End, Over}
 use Rattle.polzaintu.specs.Words.{silent-word, first-late, at-most, stamp-in, stamps-in, settings-from, place-in, staged, wall-in, place-words, wall-words}
 use Rattle.polzaintu.specs.Promises.{word-stamp, word-late, Stamps-read, Count-read, Walls-kept}
 

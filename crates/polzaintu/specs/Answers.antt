@@ -6,8 +6,8 @@ use Prim.Native.Nat.{ℕ}
 use lib.Dec.{eqb}
 use lib.IntN.{ℤ, pos}
 use lib.Ieee.{Float}
-use Rattle.rule.specs.declared.tile.Forwarded.{Forwarded}
-use Rattle.rule.specs.declared.tile.Forwarded.the-variants as forwarded
+use Rattle.tile.specs.declared.Forwarded.{Forwarded}
+use Rattle.tile.specs.declared.Forwarded.the-variants as forwarded
 use Rattle.row.specs.declared.Planned.{Planned}
 use Rattle.row.specs.declared.Planned.the-variants as planned
 use Rattle.seam.specs.declared.Seam.{Seam}
@@ -16,8 +16,8 @@ use Rattle.reach.specs.declared.Gap.{Gap}
 use Rattle.reach.specs.declared.Gap.the-variants as gap
 use Rattle.reach.specs.declared.Reached.{Reached}
 use Rattle.reach.specs.declared.Reached.the-variants as reached
-use Rattle.wall.specs.declared.Take.{Take}
-use Rattle.wall.specs.declared.Take.the-variants as take
+use Rattle.steps.specs.declared.Take.{Take}
+use Rattle.steps.specs.declared.Take.the-variants as take
 use Rattle.polzaintu.specs.Words.{side-word, place-in, wall-words}
 
 -- the number of what is unfit and has no number in 01

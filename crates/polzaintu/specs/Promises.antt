@@ -6,11 +6,11 @@ use mathlib.Core.List.{List}
 use Prim.Native.Nat.{ℕ, _≤_, _<_}
 use lib.Dec.{eqb, ltb}
 use lib.ListN.{getD}
-use Rattle.rule.specs.Refusal.{outside}
-use Rattle.rule.specs.Stamp.{Stamp, heard, silent}
-use Rattle.rule.specs.Tile.{latest-stamp, stamp-at, late-at}
-use Rattle.wall.specs.declared.Place.{Place}
-use Rattle.wall.specs.declared.Wall.{Wall}
+use Rattle.settings.specs.Refusal.{outside}
+use Rattle.rule.specs.Stamp.{Stamp, heard, silent, latest-stamp}
+use Rattle.tile.specs.Tile.{stamp-at, late-at}
+use Rattle.steps.specs.declared.Place.{Place}
+use Rattle.steps.specs.declared.Wall.{Wall}
 use Rattle.polzaintu.specs.Words.{silent-word, stamps-in, wall-in, wall-words}
 
 -- a word as a stamp: "2^64 - 1 is silent", and "a stamp over 2^41 - 1 that isn't silent" is 12

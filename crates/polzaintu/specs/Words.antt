@@ -5,15 +5,15 @@ use Prim.Native.Nat.{ℕ, _+_}
 use lib.Dec.{eqb, ltb}
 use lib.IntN.{ℤ, pos}
 use lib.ListN.{getD}
-use Rattle.rule.specs.Settings.{settings}
-use Rattle.rule.specs.declared.settings.Settings.{Settings}
-use Rattle.rule.specs.declared.tile.Stamps.{Stamps}
+use Rattle.settings.specs.Settings.{settings}
+use Rattle.settings.specs.declared.Settings.{Settings}
+use Rattle.tile.specs.declared.Stamps.{Stamps}
 use Rattle.seam.specs.declared.Side.{Side}
 use Rattle.seam.specs.declared.Side.the-variants.{Left, Right, Both}
-use Rattle.wall.specs.Step.{place}
-use Rattle.wall.specs.declared.Place.{Place}
-use Rattle.wall.specs.declared.Wall.{Wall}
-use Rattle.wall.specs.declared.Wall.the-variants.{New, Start, Row, End, Over}
+use Rattle.steps.specs.Step.{place}
+use Rattle.steps.specs.declared.Place.{Place}
+use Rattle.steps.specs.declared.Wall.{Wall}
+use Rattle.steps.specs.declared.Wall.the-variants.{New, Start, Row, End, Over}
 
 -- from the word k on: W, R, d, u, A, r, h
 unfoldable pub settings-from : (k : ℕ) → (words : List ℕ) → Settings

@@ -3,31 +3,27 @@
 // it held.
 mod words;
 
+use crate::words::place_in;
+use crate::words::settings_in;
+use crate::words::stamps_in;
+use crate::words::wall_in;
+use crate::words::wall_words;
 use reach::Gap;
 use reach::Reached;
 use row::Planned;
-use rule::tile;
-use rule::tile::Forwarded;
 use seam::Seam;
-use wall::Take;
-use words::place_in;
-use words::settings_in;
-use words::stamps_in;
-use words::wall_in;
-use words::wall_words;
+use steps::Take;
+use tile::Forwarded;
 ghost use mathlib.Core.Path.{_≡_};
 ghost use lib.ListN.{length, replicate};
-ghost use Rattle.rule.specs.Settings.{settings-refusal};
-ghost use Rattle.rule.specs.Tile.{forwarded};
-ghost use Rattle.rule.specs.Tile.{number-of as Tile·number-of};
-ghost use Rattle.row.specs.Call.{call};
-ghost use Rattle.row.specs.Refusal.{planned, written};
-ghost use Rattle.row.specs.Refusal.{number-of as Row·number-of};
-ghost use Rattle.seam.specs.Seam.{seam-of};
-ghost use Rattle.seam.specs.Seam.{number-of as Seam·number-of};
+ghost use Rattle.settings.specs.Settings.{settings-refusal};
+ghost use Rattle.tile.specs.Tile.{forwarded, number-of as Tile·number-of};
+ghost use Rattle.admission.specs.Call.{call};
+ghost use Rattle.row.specs.Row.{planned, written, number-of as Row·number-of};
+ghost use Rattle.seam.specs.Seam.{seam-of, number-of as Seam·number-of};
 ghost use Rattle.reach.specs.Search.{gap-of, reach-of};
-ghost use Rattle.wall.specs.Operation.{due-of, width-of};
-ghost use Rattle.wall.specs.Take.{take-of, row-after};
+ghost use Rattle.steps.specs.Fit.{due-of, width-of};
+ghost use Rattle.steps.specs.Take.{take-of, row-after};
 ghost use Rattle.polzaintu.specs.Words.{settings-from, stamps-in, wall-in};
 ghost use Rattle.polzaintu.specs.Answers.{forwarded-left, ends-left, side-left, halves-left, gap-number, gap-left, reach-number, reach-left, step-number, wall-left, offset-left};
 

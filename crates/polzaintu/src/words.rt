@@ -1,9 +1,9 @@
 // Structs as words, in the order of the header's fields.
-use rule::Settings;
-use rule::tile::Stamps;
 use seam::Side;
-use wall::Place;
-use wall::Wall;
+use settings::Settings;
+use steps::Place;
+use steps::Wall;
+use tile::Stamps;
 ghost use mathlib.Core.Path.{_≡_};
 ghost use Prim.Native.Nat.{_≤_};
 ghost use Rattle.polzaintu.specs.Words.{settings-from, at-most, stamp-in, stamps-in, side-word, place-in, staged, wall-in, place-words, wall-words};

@@ -4,17 +4,16 @@ use mathlib.Core.List.{[], _∷_}
 use Prim.Native.Nat.{_+_, _-_, _≤_}
 use lib.ListN.{length, take}
 use native.Mathlib.Omega.{arith}
-use Rattle.rule.proofs.Laws.Settings.{limits}
-use Rattle.rule.proofs.Laws.Cases.{by-order}
-use Rattle.row.specs.Run.{rows}
-use Rattle.row.specs.Reach.{apart, One-fault}
-use Rattle.row.proofs.Promises.{one-fault}
+use Rattle.settings.proofs.Laws.Settings.{limits}
+use Rattle.settings.proofs.Laws.Cases.{by-order}
+use Rattle.runs.specs.Run.{rows}
+use Rattle.runs.specs.Reach.{apart, One-fault}
+use Rattle.runs.proofs.Promises.{one-fault}
 use Rattle.reach.specs.Span.{Span-right}
 use Rattle.reach.specs.Search.{reach-ticks, Search-range}
 use Rattle.reach.specs.Survey.{last-reach, Row-surveyed, Largest-enough}
 use Rattle.reach.proofs.Laws.Span.{spanned}
-use Rattle.reach.proofs.Laws.Survey.{row-surveyed as row-law}
-use Rattle.reach.proofs.Laws.Survey.{largest-each, taken-length, taken-at, row-is}
+use Rattle.reach.proofs.Laws.Survey.{row-surveyed as row-law, largest-each, taken-length, taken-at, row-is}
 
 pub span-right : Span-right
 unfolding Span-right

@@ -6,12 +6,12 @@ use mathlib.Core.List.{List}
 use Prim.Native.Nat.{ℕ, _+_, _-_, _*_, _≤_, _<_}
 use lib.Dec.{eqb, ltb}
 use lib.ListN.{length, getD}
-use Rattle.rule.specs.Settings.{settings-refusal}
-use Rattle.rule.specs.Tile.{latest-stamp}
-use Rattle.rule.specs.declared.settings.Settings.{Settings}
-use Rattle.row.specs.Call.{Call}
-use Rattle.row.specs.Run.{taken, rows, row-at}
-use Rattle.row.specs.Reach.{Alike, apart, widest-gap}
+use Rattle.settings.specs.Settings.{settings-refusal}
+use Rattle.rule.specs.Stamp.{latest-stamp}
+use Rattle.settings.specs.declared.Settings.{Settings}
+use Rattle.admission.specs.Call.{Call}
+use Rattle.runs.specs.Run.{taken, rows, row-at}
+use Rattle.runs.specs.Reach.{Alike, apart, widest-gap}
 use Rattle.reach.specs.Span.{first-within, last-within}
 use Rattle.reach.specs.declared.Gap.{Gap}
 use Rattle.reach.specs.declared.Gap.the-variants as gap

@@ -3,7 +3,7 @@
 use mathlib.Core.Bool.{cond}
 use Prim.Native.Nat.{ℕ, _+_, _-_, _≤_, _<_, min}
 use lib.Dec.{eqb, ltb}
-use Rattle.row.specs.Columns.{Within}
+use Rattle.columns.specs.Columns.{Within}
 
 -- an end column has its next but one beside it, so it reaches as far as the column next to it; near the other end the last two
 -- columns are reached together

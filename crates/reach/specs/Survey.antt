@@ -3,12 +3,12 @@ use mathlib.Core.Path.{_≡_}
 use mathlib.Core.List.{List, [], _∷_}
 use Prim.Native.Nat.{ℕ, suc, _-_, _≤_, _<_, max}
 use lib.ListN.{length, getD, take}
-use Rattle.rule.specs.Settings.{settings-refusal}
-use Rattle.rule.specs.Tile.{latest-stamp}
-use Rattle.rule.specs.declared.settings.Settings.{Settings}
-use Rattle.row.specs.Call.{Call}
-use Rattle.row.specs.Run.{taken, rows, row-at}
-use Rattle.row.specs.Reach.{Alike, apart, widest-gap}
+use Rattle.settings.specs.Settings.{settings-refusal}
+use Rattle.rule.specs.Stamp.{latest-stamp}
+use Rattle.settings.specs.declared.Settings.{Settings}
+use Rattle.admission.specs.Call.{Call}
+use Rattle.runs.specs.Run.{taken, rows, row-at}
+use Rattle.runs.specs.Reach.{Alike, apart, widest-gap}
 use Rattle.reach.specs.Search.{gap-of, reach-of, reach-ticks}
 use Rattle.reach.specs.declared.Gap.{Gap}
 use Rattle.reach.specs.declared.Gap.the-variants as gap

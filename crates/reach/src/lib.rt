@@ -2,14 +2,13 @@
 // the ticks and the columns so many rows later, `reach_in_row` those of a later row. Each answers every input.
 pub mod survey;
 
-use rule::Settings;
-use rule::rounding::larger;
-use rule::rounding::smaller;
+use settings::Settings;
+use settings::rounding::larger;
+use settings::rounding::smaller;
 ghost use mathlib.Core.Path.{_≡_};
 ghost use Prim.Native.Nat.{_≤_, _<_};
 ghost use lib.ListN.{length};
-ghost use Rattle.row.specs.Reach.{apart as Reach·apart};
-ghost use Rattle.row.specs.Reach.{widest-gap};
+ghost use Rattle.runs.specs.Reach.{apart as Reach·apart, widest-gap};
 ghost use Rattle.reach.specs.Span.{first-within};
 ghost use Rattle.reach.specs.Search.{gap-of, outside-wall, reach-of, reach-in-row};
 

@@ -4,9 +4,9 @@ use crate::Gap;
 use crate::Reached;
 use crate::reach;
 use crate::widest_gap;
-use rule::Settings;
-use rule::rounding::larger;
-use rule::rounding::less;
+use settings::Settings;
+use settings::rounding::larger;
+use settings::rounding::less;
 ghost use mathlib.Core.Path.{_≡_};
 ghost use Rattle.reach.specs.Survey.{surveyed-of};
 

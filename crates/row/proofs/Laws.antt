@@ -1,19 +1,2 @@
 -- The laws of the definitions, each file over one of them.
-pub mod Columns
-pub mod Window
-pub mod Quiet
-pub mod Ordinary
-pub mod Lengths
-pub mod Lists
-pub mod Accepted
-pub mod Stamps
-pub mod Stampable
-pub mod Plain
 pub mod Table
-pub mod Tiles
-pub mod Pulse
-pub mod Run
-pub mod Reach
-pub mod Program
-pub mod Growth
-pub mod Shift

@@ -1,4 +1,2 @@
 pub mod Laws
 pub mod Promises
-pub mod Witness
-pub mod Contract

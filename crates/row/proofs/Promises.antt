@@ -1,138 +1,31 @@
--- The proofs of what specs/Reach.antt and its fellows state, from the laws in proofs/Laws/. Assumes nothing.
-use mathlib.Core.Path.{refl}
-use mathlib.Core.Bool.{not, and-false}
-use mathlib.Core.List.{List, map}
-use Prim.Native.Nat.{ℕ, zero, suc, _+_, _*_, _≤_, _<_}
-use lib.ListN.{length, getD}
-use native.Mathlib.Omega.{arith}
-use borrow.Author.Tests.{le-ltb}
-use Rattle.rule.specs.declared.settings.Settings.{Settings}
-use Rattle.rule.proofs.Laws.Settings.{limits}
-use Rattle.rule.specs.Tile.{tile-pulse}
-use Rattle.row.specs.Columns.{neighbours}
-use Rattle.row.specs.Call.{Call, latest-time, marked, stamp, pulse}
-use Rattle.row.specs.Tiles.{tile-stamps, Tiles-accepted}
-use Rattle.row.proofs.Laws.Columns.{own, predecessors-window, links-early, links-inner, links-late}
-use Rattle.row.proofs.Laws.Stamps.{stamp-by, few-silent, neighbours-by, two-neighbours, at-most-three}
-use Rattle.row.proofs.Laws.Tiles.{own-place, places-back}
-use Rattle.row.specs.Refusal.{late-time, Row-answered}
-use Rattle.row.specs.Window.{Window-right, Links-counted, Links-start}
-use Rattle.row.specs.Run.{taken, rows, call-at, row-at}
-use Rattle.row.specs.Reach.{Alike, Alike-among, One-fault, One-more-fault}
-use Rattle.row.specs.Program.{Program-one-fault, Program-one-more-fault}
-use Rattle.row.proofs.Laws.Program.{planned-number, written-accepted, written-refused, run-of-calls}
-use Rattle.row.specs.Growth.{Pulse-grows, Row-small, Never-late}
-use Rattle.row.specs.Shift.{Shift-bounded}
-use Rattle.row.proofs.Laws.Shift.{shifted}
-use Rattle.rule.proofs.Laws.AnyBelow.{none-till}
-use Rattle.row.proofs.Laws.Accepted.{accepted}
-use Rattle.row.proofs.Laws.Growth.{pulse-most}
-use Rattle.row.proofs.Laws.Run.{Run, run-of, written-at}
-use Rattle.row.proofs.Laws.Reach.{reach}
+-- The proof of what specs/Row.antt states. Assumes nothing.
+use mathlib.Core.Path.{_≡_, sym}
+use mathlib.Core.List.{List}
+use Prim.Native.Nat.{ℕ}
+use borrow.Author.Tests.{eq-eqb, ne-eqb}
+use Rattle.settings.specs.declared.Settings.{Settings}
+use Rattle.settings.proofs.Laws.Cases.{by-zero}
+use Rattle.admission.specs.Call.{Call}
+use Rattle.row.specs.Row.{row-of, planned, written, number-of, Row-answered}
+use Rattle.admission.specs.Refusal.{row-refusal}
 
--- where a tile's predecessors and links stand
-pub window-right : Window-right
-unfolding Window-right
-window-right w c wide i = predecessors-window w c wide i
+-- the answer's number is the call's
+pub planned-number : (s : Settings) (ts : List ℕ) (x : Call) → number-of (planned s ts x) ≡ row-refusal s ts x
+unfolding planned number-of
+planned-number s ts x =
+    by-zero (row-refusal s ts x)
+    (λ e. rw (eq-eqb (row-refusal s ts x) 0 e) (sym e))
+    (λ n. rw (ne-eqb (row-refusal s ts x) 0 n))
 
-pub links-counted : Links-counted
-unfolding Links-counted
-links-counted w wide = links-late w wide w (omega arith) (omega arith)
+pub written-accepted : (s : Settings) (ts : List ℕ) (x : Call) (held : List ℕ) → row-refusal s ts x ≡ 0 → written s ts x held ≡ row-of s ts x
+unfolding written
+written-accepted s ts x held e = rw (eq-eqb (row-refusal s ts x) 0 e)
 
-pub links-start : Links-start
-unfolding Links-start
-links-start w c wide i = (links-early w wide c, links-inner w wide c, λ j. links-late w wide c j (omega arith))
+pub written-refused : (s : Settings) (ts : List ℕ) (x : Call) (held : List ℕ) → (row-refusal s ts x ≡ 0 → ⊥) → written s ts x held ≡ held
+unfolding written
+written-refused s ts x held n = rw (ne-eqb (row-refusal s ts x) 0 n)
 
 -- the answer
 pub row-answered : Row-answered
 unfolding Row-answered
 row-answered s ts x held = (planned-number s ts x, written-refused s ts x held, written-accepted s ts x held)
-
--- demand 3
-pub one-more-fault : One-more-fault
-unfolding One-more-fault
-one-more-fault s ts xs ys f k ok long i first second j alike =
-    let run = run-of s xs ts in
-    reach run (run-of s ys ts) alike i (omega (arith, run .as-many))
-
--- with no other faulty tile
-among : {w f k : ℕ} {xs ys : List Call} → Alike w f k xs ys → k < w → f < length xs → Alike-among w f k xs ys
-among {f = f} {k = k} alike i j =
-    record {
-      as-many = alike .as-many;
-      drifts = alike .drifts;
-      correct = alike .first-clean f k j i;
-      marks = λ l c m n. rw (alike .first-clean l c m n) (alike .marks l c m n);
-      links = alike .links;
-    }
-
-pub one-fault : One-fault
-unfolding One-fault One-more-fault
-one-fault s ts xs ys f k ok long i first second j alike =
-    one-more-fault s ts xs ys f k ok long i first second j (among alike i (omega (arith, run-of s xs ts .as-many)))
-
--- the same of the program's own calls
-pub program-one-more-fault : Program-one-more-fault
-unfolding Program-one-more-fault
-program-one-more-fault s ts xs ys rs qs f k first second i j alike = reach (run-of-calls first) (run-of-calls second) alike i j
-
-pub program-one-fault : Program-one-fault
-unfolding Program-one-fault
-program-one-fault s ts xs ys rs qs f k first second i j alike =
-    reach (run-of-calls first) (run-of-calls second) (among alike i j) i j
-
--- the growth of times
-pub pulse-grows : Pulse-grows
-unfolding Pulse-grows
-pulse-grows s ts x T c e early i = pulse-most (accepted s ts x e) T c early i
-
-pub row-small : Row-small
-unfolding Row-small
-row-small s ts x c e i =
-    let r = accepted s ts x e in
-    let k = limits s (r .settings) in
-    omega (arith, pulse-most r latest-time c (r .time) i, k .delay, k .hold, k .unit)
-
--- row l is at most l times 2,187,500 ticks after row 0
-times-small : (s : Settings) (ts : List ℕ) (xs : List Call) (rs : List (List ℕ)) → Run s ts xs rs →
-    ((c : ℕ) → c < s .width → getD ts c 0 ≤ 549755813887) → (l c : ℕ) → l ≤ length xs → c < s .width → getD (row-at ts rs l) c 0 ≤ 549755813887 + 2187500 * l
-times-small s ts xs rs run start zero c i j = unfold row-at in omega (arith, start c j)
-times-small s ts xs rs run start (suc l) c i j =
-    let r = accepted s (row-at ts rs l) (call-at xs l) (run .goes l (omega arith)) in
-    let k = limits s (r .settings) in
-    omega (
-      arith,
-      written-at run l c (omega arith) j,
-      pulse-most r (549755813887 + 2187500 * l) c (λ m o t. times-small s ts xs rs run start l m (omega arith) o) j,
-      k .delay,
-      k .hold,
-      k .unit,
-    )
-
-pub never-late : Never-late
-unfolding Never-late late-time
-never-late s ts xs l ms ok start i j =
-    let run = run-of s xs ts in
-    none-till (late-time (row-at ts (rows s xs ts) l) ms) (s .width)
-    (λ c o. rw (le-ltb latest-time (getD (row-at ts (rows s xs ts) l) c 0)
-    (omega (arith, times-small s ts (taken s xs ts) (rows s xs ts) run start l c (omega (arith, run .as-many)) o)))
-    (and-false (not (marked ms c))))
-
--- a wave that starts later
-pub shift-bounded : Shift-bounded
-unfolding Shift-bounded
-shift-bounded s ts us xs ys n start later l c i j =
-    let run = run-of s xs ts in
-    shifted n run (run-of s ys us) start later l c (omega (arith, run .as-many)) j
-
--- the tiles of an accepted row
-pub tiles-accepted : Tiles-accepted
-unfolding Tiles-accepted tile-stamps pulse tile-pulse
-tiles-accepted s ts x c e i =
-    let r = accepted s ts x e in
-    let st = stamp (s .width) ts x c in
-    let ns = map st (neighbours (s .width) c) in
-    let wide = limits s (r .settings) .width .0 in
-    let back = places-back s (r .settings) (st c) ns (stamp-by r c i c i (own (s .width) c c refl)) (neighbours-by r c i) (few-silent r c i)
-    (two-neighbours st wide i) (at-most-three st wide i) in
-    (back .0, rw (own-place (st c) ns, back .1))

@@ -1,13 +1,2 @@
-pub mod Columns
-pub mod Call
-pub mod Window
-pub mod Plain
+pub mod Row
 pub mod Progress
-pub mod Refusal
-pub mod Run
-pub mod Reach
-pub mod Program
-pub mod Witness
-pub mod Tiles
-pub mod Growth
-pub mod Shift

@@ -3,8 +3,8 @@ use mathlib.Core.Path.{_≡_}
 use mathlib.Core.List.{List}
 use Prim.Native.Nat.{ℕ, _≤_, _<_}
 use lib.ListN.{length, getD}
-use Rattle.row.specs.Call.{table-from}
-use Rattle.row.specs.Refusal.{least-of, most-of}
+use Rattle.columns.specs.Columns.{table-from}
+use Rattle.row.specs.Row.{least-of, most-of}
 
 -- the first c places hold what f gives, and least and most are theirs
 pub record Filled (f : ℕ → ℕ) (held times : List ℕ) (least most c : ℕ) : Type 0 where

@@ -1,18 +1,13 @@
 // One row of pulses, worked out from the row before it.
-pub mod columns;
-mod links;
 mod progress;
-mod pulse;
-mod refusal;
 
 use progress::Progress;
 use progress::further;
-use rule::Settings;
-use rule::settings;
+use settings::Settings;
 ghost use mathlib.Core.Path.{_≡_};
 ghost use lib.ListN.{length};
-ghost use Rattle.row.specs.Call.{call};
-ghost use Rattle.row.specs.Refusal.{planned, written};
+ghost use Rattle.admission.specs.Call.{call};
+ghost use Rattle.row.specs.Row.{planned, written};
 
 pub enum Planned {
     // The earliest and latest time of the row that was written.
@@ -34,7 +29,7 @@ pub fn plan(
     ensures answer { λ r. ⌜ r ≡ planned settings (now (before .entry)) (call (now (marks .entry)) (now (drifts .entry)) (now (links .entry)) (length (now (times .entry)))) ⌝ }
     ensures row { λ r. ⌜ now (times .exit) ≡ written settings (now (before .entry)) (call (now (marks .entry)) (now (drifts .entry)) (now (links .entry)) (length (now (times .entry)))) (now (times .entry)) ⌝ }
 {
-    let number = refusal::refusal(settings, before, marks, drifts, links, times.len());
+    let number = admission::refusal(settings, before, marks, drifts, links, times.len());
     if number != 0 {
         return Planned::Refused(number);
     }

@@ -1,18 +1,19 @@
 // A row as it is written, from its first column on.
-use crate::columns::plain;
-use crate::pulse::correct;
-use crate::pulse::pulse;
-use rule::Settings;
+use columns::plain;
+use pulse::correct;
+use pulse::pulse;
 use rule::forwarding::SILENT;
-use rule::rounding::larger;
-use rule::rounding::smaller;
+use settings::Settings;
+use settings::rounding::larger;
+use settings::rounding::smaller;
 ghost use mathlib.Core.Path.{_≡_};
 ghost use Prim.Native.Nat.{_+_, _<_, min, max};
 ghost use lib.ListN.{length};
-ghost use Rattle.rule.specs.Settings.{step-of};
+ghost use Rattle.settings.specs.Settings.{step-of};
 ghost use Rattle.rule.specs.Stamp.{silence};
-ghost use Rattle.row.specs.Call.{call, pulse};
-ghost use Rattle.row.specs.Refusal.{row-refusal};
+ghost use Rattle.admission.specs.Call.{call};
+ghost use Rattle.pulse.specs.Pulse.{pulse};
+ghost use Rattle.admission.specs.Refusal.{row-refusal};
 ghost use Rattle.row.specs.Progress.{Filled};
 
 pub struct Progress {

@@ -2,7 +2,7 @@
 // of either end, for several widths, and a call for each number and the order between them.
 use libc::STDOUT_FILENO;
 use row::Planned;
-use rule::Settings;
+use settings::Settings;
 ghost use Prim.Native.Nat.{_+_, _*_, _≤_};
 ghost use lib.ListN.{length};
 

@@ -1,7 +1,7 @@
 -- 01's starred cases, and the corrections next to zero, computed by the rule as written. Assumes nothing.
 use mathlib.Core.Path.{refl}
-use Rattle.rule.specs.Rounding.{up}
-use Rattle.rule.specs.Settings.{step}
+use Rattle.settings.specs.Rounding.{up}
+use Rattle.settings.specs.Settings.{step}
 use Rattle.rule.specs.Signed.{larger, smaller}
 use Rattle.rule.specs.Stamp.{earlier, later, earliest, latest}
 use Rattle.rule.specs.Forward.{larger-at, least-to, D, heard-correction, P, correction}

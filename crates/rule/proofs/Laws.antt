@@ -1,9 +1,4 @@
 -- The laws of the definitions, each file over one of them.
-pub mod Cases
-pub mod Refusal
-pub mod AnyBelow
-pub mod Rounding
-pub mod Settings
 pub mod Clock
 pub mod Signed
 pub mod Middle
@@ -12,4 +7,3 @@ pub mod Closed
 pub mod Stamp
 pub mod Forward
 pub mod Coded
-pub mod Tile

@@ -4,7 +4,7 @@ use mathlib.Core.List.{List, [], _∷_}
 use mathlib.Core.Option.{Option, none, some}
 use Prim.Native.Nat.{ℕ}
 use lib.IntN.{ℤ, pos, negsuc}
-use Rattle.rule.specs.Settings.{step}
+use Rattle.settings.specs.Settings.{step}
 use Rattle.rule.specs.Stamp.{Stamp, heard, silent, earliest, latest}
 use Rattle.rule.specs.Forward.{P, correction}
 

@@ -1,7 +1,7 @@
 -- A tile's clock: what it reads at a true tick, and the first tick at which it reads enough.
 -- The phase is how far into a reading the clock starts, in millionths; document 01 has phase 0. Assumes nothing.
 use Prim.Native.Nat.{ℕ, _+_, _-_, _*_, _/_}
-use Rattle.rule.specs.Rounding.{up}
+use Rattle.settings.specs.Rounding.{up}
 
 abbrev pub million : ℕ
 million = 1000000

@@ -1,11 +1,8 @@
-pub mod Refusal
-pub mod Rounding
-pub mod Settings
 pub mod Clock
 pub mod Signed
 pub mod Stamp
 pub mod Forward
 pub mod Closed
-pub mod Tile
 pub mod Cases
+pub mod Pulse
 pub mod Promises

@@ -1,38 +1,19 @@
--- What is promised of settings, clocks and one tile. Each statement is proved in proofs/Promises.antt, under its name in
--- small letters. Assumes nothing.
+-- What is promised of clocks and the rule. Each statement is proved in proofs/Promises.antt, under its name in small
+-- letters. Assumes nothing.
 use mathlib.Core.Path.{_≡_}
-use mathlib.Core.Bool.{false}
 use mathlib.Core.List.{List, map}
-use mathlib.Core.Option.{some}
 use Prim.Native.Nat.{ℕ, _+_, _-_, _*_, _≤_, _<_, min, max}
 use lib.IntN.{pos, _-ℤ_}
 use lib.ListN.{length}
 use lib.Signed.{_≤ℤ_}
-use mir.Syntax.{w64}
-use mir.Val.{SFits}
-use Rattle.rule.specs.Settings.{drift-cost, step, step-of, settings-refusal, checked, number-of as settings-number, record-of}
+use Rattle.settings.specs.Settings.{step-of, settings-refusal, checked}
 use Rattle.rule.specs.Clock.{reads, first-tick}
 use Rattle.rule.specs.Signed.{natural}
 use Rattle.rule.specs.Stamp.{Stamp, heard, _≼_, _≼*_, _∈_, earliest, latest, after, Within, All, All-but-one, unheard-of, unheard-in}
-use Rattle.rule.specs.Forward.{larger-at, D, P, correction}
+use Rattle.rule.specs.Forward.{larger-at, D, P}
 use Rattle.rule.specs.Closed.{closed-P}
-use Rattle.rule.specs.Tile.{latest-stamp, silent-at, reading-at, own-stamp, neighbour-stamps, tile-P, tile-refusal, forwarded, number-of, P-of, correction-of}
-use Rattle.rule.specs.declared.settings.Settings.{Settings}
-use Rattle.rule.specs.declared.tile.Stamps.{Stamps}
-
--- SETTINGS. c and J are rounded up: the least whole numbers that are enough
-unfoldable pub Cost-rounded-up : Type 0
-Cost-rounded-up =
-    (r a : ℕ) → (r * a ≤ drift-cost r a * (1000000 + r)) × (drift-cost r a * (1000000 + r) < r * a + (1000000 + r))
-
-unfoldable pub Step-rounded-up : Type 0
-Step-rounded-up =
-    (h r : ℕ) → (2 * h * (1000000 + r) ≤ step h r * 1000000) × (step h r * 1000000 < 2 * h * (1000000 + r) + 1000000)
-
--- the number of the answer is 01's, and the record is handed out where it is 0
-unfoldable pub Settings-answered : Type 0
-Settings-answered =
-    (s : Settings) → (settings-number (checked s) ≡ settings-refusal s) × (settings-refusal s ≡ 0 → record-of (checked s) ≡ some s)
+use Rattle.rule.specs.Pulse.{tile-P}
+use Rattle.settings.specs.declared.Settings.{Settings}
 
 -- CLOCKS. The tick of a reading is the least that reads enough, for every drift and phase
 unfoldable pub Tick-least : Type 0
@@ -97,25 +78,3 @@ unfoldable pub Forward-between : Type 0
 Forward-between =
     (s : Settings) (o l m : ℕ) → settings-refusal s ≡ 0 → l ≤ m →
     let p = natural (P (s .unit) (step-of s) (heard o) (heard l) (heard m)) in (min o (l - 3 * s .unit) ≤ p) × (p ≤ max o (m + 3 * s .unit))
-
--- THE TILE. The answer's number is 01's; where it is 0 the answer has 01's P and correction
-unfoldable pub Tile-answered : Type 0
-Tile-answered =
-    (s : Settings) (x : Stamps) → (number-of (forwarded s x) ≡ tile-refusal s x)
-    × (tile-refusal s x ≡ 0 →
-    (P-of (forwarded s x) ≡ some (pos (tile-P s (own-stamp x) (neighbour-stamps x))))
-    × (correction-of (forwarded s x)
-    ≡ correction (s .unit) (step-of s) (own-stamp x) (earliest (neighbour-stamps x)) (latest (neighbour-stamps x))))
-
--- places past the count, and stamps of silent places, don't matter
-unfoldable pub Past-count : Type 0
-Past-count =
-    (s : Settings) (x y : Stamps) → x .count ≡ y .count → ((k : ℕ) → k ≤ x .count → silent-at x k ≡ silent-at y k) →
-    ((k : ℕ) → k ≤ x .count → silent-at x k ≡ false → reading-at x k ≡ reading-at y k) → forwarded s x ≡ forwarded s y
-
--- for accepted stamps P is from 0 to 2^41 - 1 + 3h, and the correction is an i64
-unfoldable pub P-range : Type 0
-P-range =
-    (s : Settings) (x : Stamps) → tile-refusal s x ≡ 0 →
-    let p = tile-P s (own-stamp x) (neighbour-stamps x) in
-    (p ≤ latest-stamp + 3 * s .unit) × ((o : ℕ) → own-stamp x ≡ heard o → SFits w64 (pos o -ℤ pos p))

@@ -80,3 +80,7 @@ unheard-of silent = 1
 unfoldable pub unheard-in : List Stamp → ℕ
 unheard-in [] = 0
 unheard-in (x ∷ xs) = unheard-of x + unheard-in xs
+
+-- 2^41 - 1
+abbrev pub latest-stamp : ℕ
+latest-stamp = 2199023255551

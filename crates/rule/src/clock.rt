@@ -1,11 +1,9 @@
 // A tile's clock, in whole ticks and readings.
-use crate::rounding::up;
+use settings::MILLION;
+use settings::rounding::up;
 ghost use mathlib.Core.Path.{_≡_};
 ghost use Prim.Native.Nat.{_≤_, _<_, _^_};
 ghost use Rattle.rule.specs.Clock.{reads, first-tick};
-
-// Parts of a tick: drifts are counted in millionths.
-pub const MILLION: u64 = 1_000_000;
 
 // What a clock of this drift reads at a tick.
 pub fn reading(drift: u64, tick: u64) -> u64

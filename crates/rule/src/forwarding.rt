@@ -1,7 +1,7 @@
 // The forwarding rule on plain numbers, in constant time. A stamp here is 0 to 2^42, or SILENT.
-use crate::rounding::larger;
-use crate::rounding::less;
-use crate::rounding::smaller;
+use settings::rounding::larger;
+use settings::rounding::less;
+use settings::rounding::smaller;
 ghost use mathlib.Core.Path.{_≡_};
 ghost use Prim.Native.Nat.{_≤_, _<_};
 ghost use Rattle.rule.specs.Stamp.{stamp-of};

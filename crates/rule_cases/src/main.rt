@@ -1,12 +1,11 @@
 // Runs document 01's tile, clock and settings cases, and a tile or settings for each number,
 // through the operations. Each line says what 01 gives and whether the operation answered that.
 use libc::STDOUT_FILENO;
-use rule::Checked;
-use rule::Forwarded;
-use rule::Settings;
-use rule::Stamps;
 use rule::clock;
-use rule::tile;
+use settings::Checked;
+use settings::Settings;
+use tile::Forwarded;
+use tile::Stamps;
 
 fn main() {
     neighbours_100_and_100();

@@ -14,7 +14,7 @@ use lib.Ieee.Exact.{HasValue, round-exact}
 use lib.Ieee.Fits.{down-pos, round-fits}
 use lib.Ieee.Scale.{round-same}
 use borrow.Author.Tests.{lt-ltb, le-ltb, ltb-false}
-use Rattle.rule.proofs.Laws.Cases.{by-order}
+use Rattle.settings.proofs.Laws.Cases.{by-order}
 use Rattle.rule.proofs.Laws.Signed.{minus, sub-pos, sub-neg}
 use Rattle.seam.specs.Seam.{latest, half, halves, late, joined, seam-of}
 use Rattle.seam.specs.declared.Seam.the-variants.{Refused}

@@ -7,7 +7,7 @@ use native.Mathlib.Nat.{le-refl}
 use native.Mathlib.Omega.{arith}
 use lib.IntN.{pos, _-ℤ_}
 use lib.Ieee.{binary64, round, toBits}
-use Rattle.rule.proofs.Laws.Cases.{by-order}
+use Rattle.settings.proofs.Laws.Cases.{by-order}
 use Rattle.rule.proofs.Laws.Signed.{minus, minus-fits, sub-pos, sub-≤}
 use Rattle.seam.specs.Seam.{latest, half, halves, late, joined, seam-of, number-of, halves-of, side-of}
 use Rattle.seam.specs.Promises.{Halves-exact, Zero-gap-plus, Bits, Printed-bits, Odd-bits, Gap-range, Gap-ends, Over, Seam-answered, Faulty-unread}

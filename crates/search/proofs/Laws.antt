@@ -1,6 +1,4 @@
--- The laws of the definitions.
-pub mod Text
-pub mod Telling
-pub mod Moved
+-- The laws of the definitions, each file over one of them.
 pub mod File
+pub mod Moved
 pub mod Whole

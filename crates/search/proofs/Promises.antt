@@ -8,24 +8,24 @@ use lib.Dec.{eqb, ltb}
 use lib.ListN.{length, take, drop, take-append-drop}
 use native.Mathlib.Omega.{arith}
 use borrow.Author.Tests.{eq-eqb}
-use Rattle.wall.specs.File.{settings-number, start-number, row-number}
+use Rattle.steps.specs.Number.{settings-number, start-number, row-number}
 use Rattle.wall.specs.Limits.{settings-of, after-settings, start-of, after-start, calls-of, rows-of}
-use Rattle.wall.specs.Operation.{due-of, width-of}
+use Rattle.steps.specs.Fit.{due-of, width-of}
 use Rattle.wall.specs.Stands.{Stands}
-use Rattle.wall.specs.Step.{Stepped, due-size, stepped, away, settings-step, step-of}
-use Rattle.wall.specs.Take.{row-left, next-row}
-use Rattle.wall.specs.declared.Wall.{Wall}
-use Rattle.wall.specs.declared.Wall.the-variants.{New, Start, Row, End, Over}
+use Rattle.steps.specs.Step.{Stepped, due-size, stepped, away, settings-step, step-of}
+use Rattle.steps.specs.Take.{row-left, next-row}
+use Rattle.steps.specs.declared.Wall.{Wall}
+use Rattle.steps.specs.declared.Wall.the-variants.{New, Start, Row, End, Over}
 use Rattle.wall.proofs.Promises.{start-at, rows-place, settings-accepted, start-accepted, first-row, few-rows}
 use Rattle.wall.proofs.Laws.Stands.{due-right}
 use Rattle.wall.proofs.Laws.Steps.{part-enough}
-use Rattle.stream.specs.Window.{bytes-in}
+use Rattle.window.specs.Window.{bytes-in}
 use Rattle.stream.proofs.Laws.Held.{Kept, kept-start, kept-row, kept-end, kept-over, held-part, enough-held}
 use Rattle.search.specs.File.{start-told, file-told, search-text}
-use Rattle.search.specs.Telling.{Telling, telling}
+use Rattle.telling.specs.Telling.{Telling, telling}
 use Rattle.search.specs.Moved.{told}
 use Rattle.search.specs.Promises.{brings, Runs, over, reads, steps, Run-right, Turn-right, Whole-told}
-use Rattle.search.proofs.Laws.Telling.{told-wall, told-stands}
+use Rattle.telling.proofs.Laws.Telling.{told-wall, told-stands}
 use Rattle.search.proofs.Laws.File.{from, part-told, one-step}
 use Rattle.search.proofs.Laws.Whole.{rows-whole}
 

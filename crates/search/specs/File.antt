@@ -4,17 +4,17 @@ use mathlib.Core.List.{List, [], _∷_, _++_}
 use Prim.Native.Nat.{ℕ, zero, suc, _+_}
 use lib.Dec.{eqb, ltb}
 use lib.ListN.{length, drop}
-use Rattle.rule.specs.declared.settings.Settings.{Settings}
-use Rattle.row.specs.Call.{row-of}
+use Rattle.settings.specs.declared.Settings.{Settings}
+use Rattle.row.specs.Row.{row-of}
 use Rattle.reach.specs.Survey.{surveyed-of}
 use Rattle.reach.specs.declared.survey.Surveyed.{Surveyed}
 use Rattle.reach.specs.declared.survey.Surveyed.the-variants as surveyed
-use Rattle.text.specs.Line.{refused-line}
-use Rattle.wall.specs.Field.{body}
-use Rattle.wall.specs.Contents.{settings-size, settings-in, start-size, times-in, row-size, marks-in, call-in}
-use Rattle.wall.specs.File.{settings-number, start-number, row-number, row-offset}
-use Rattle.search.specs.Text.{faulty-word, largest-word, line-text, gap-text}
-use Rattle.search.specs.Telling.{first-marked}
+use Rattle.lines.specs.Line.{refused-line}
+use Rattle.fields.specs.Field.{body}
+use Rattle.contents.specs.Contents.{settings-size, settings-in, start-size, times-in, row-size, marks-in, call-in}
+use Rattle.steps.specs.Number.{settings-number, start-number, row-number, row-offset}
+use Rattle.telling.specs.Text.{faulty-word, largest-word, line-text, gap-text}
+use Rattle.telling.specs.Telling.{first-marked}
 
 -- row l's lines, and then what follows with the largest reach of the rows so far; every row of a wall file has them (`Row-surveyed`)
 unfoldable pub with-lines : Settings → (asked : List ℕ) → (l : ℕ) → Surveyed → (rest : ℕ → List ℕ) → List ℕ

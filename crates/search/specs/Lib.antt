@@ -1,5 +1,3 @@
-pub mod Text
-pub mod Telling
-pub mod File
 pub mod Moved
+pub mod File
 pub mod Promises

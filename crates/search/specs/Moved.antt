@@ -3,19 +3,12 @@ use mathlib.Core.Path.{_≡_}
 use mathlib.Core.List.{List}
 use Prim.Native.Nat.{ℕ}
 use lib.ListN.{length, take, drop}
-use Rattle.text.specs.Wrote.{Wrote}
-use Rattle.wall.specs.Operation.{due-of, width-of}
-use Rattle.wall.specs.Take.{next-row}
-use Rattle.stream.specs.Window.{Within, bytes-in}
-use Rattle.search.specs.Telling.{Telling, telling}
+use Rattle.lines.specs.Wrote.{Wrote}
+use Rattle.steps.specs.Fit.{due-of, width-of}
+use Rattle.steps.specs.Take.{next-row}
+use Rattle.window.specs.Window.{Within, bytes-in}
+use Rattle.telling.specs.Telling.{Telling, telling}
 use Rattle.search.specs.declared.Search.{Search}
-use Rattle.search.specs.declared.told.Told.{Told}
-
--- what was told is what the definition tells, and its text stands in the buffer
-pub record Said (t : Telling) (r : Told) (before : List ℕ) (at : ℕ) (after : List ℕ) : Type 0 where
-  pub wall : r .wall ≡ t .wall
-  pub largest : r .largest ≡ t .largest
-  pub text : Wrote before at (t .text) after (r .end)
 
 -- a step on a part and the wall's row; the window is as it was
 pub record Went-on (asked : List ℕ) (v : Search) (part times held output : List ℕ) (r : Search) (times-after output-after : List ℕ) : Type 0 where

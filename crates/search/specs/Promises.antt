@@ -5,22 +5,22 @@ use mathlib.Core.Bool.{true, false}
 use mathlib.Core.List.{List, [], _∷_, _++_}
 use Prim.Native.Nat.{ℕ, suc, _-_, _<_}
 use lib.ListN.{length, take, drop}
-use Rattle.rule.specs.declared.settings.Settings.{Settings}
-use Rattle.row.specs.Call.{marked}
-use Rattle.row.specs.Run.{call-at}
-use Rattle.row.specs.Reach.{widest-gap}
+use Rattle.settings.specs.declared.Settings.{Settings}
+use Rattle.columns.specs.Marks.{marked}
+use Rattle.runs.specs.Run.{call-at}
+use Rattle.runs.specs.Reach.{widest-gap}
 use Rattle.reach.specs.Survey.{largest-of}
 use Rattle.wall.specs.Limits.{settings-of, start-of, calls-of, rows-of, Keeps}
-use Rattle.wall.specs.Operation.{due-of, width-of}
-use Rattle.wall.specs.Take.{next-row}
-use Rattle.wall.specs.declared.Wall.{Wall}
-use Rattle.wall.specs.declared.Wall.the-variants.{New, Over}
-use Rattle.stream.specs.Window.{bytes-in}
+use Rattle.steps.specs.Fit.{due-of, width-of}
+use Rattle.steps.specs.Take.{next-row}
+use Rattle.steps.specs.declared.Wall.{Wall}
+use Rattle.steps.specs.declared.Wall.the-variants.{New, Over}
+use Rattle.window.specs.Window.{bytes-in}
 use Rattle.stream.specs.State.{Between, Made-ready}
 use Rattle.stream.specs.declared.State.{State}
-use Rattle.search.specs.Text.{largest-word, line-text, gap-text}
+use Rattle.telling.specs.Text.{largest-word, line-text, gap-text}
 use Rattle.search.specs.File.{search-text}
-use Rattle.search.specs.Telling.{Telling, telling}
+use Rattle.telling.specs.Telling.{Telling, telling}
 use Rattle.search.specs.Moved.{told, Moved}
 use Rattle.search.specs.declared.Search.{Search}
 

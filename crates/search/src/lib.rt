@@ -1,21 +1,19 @@
 // The search range of a wall file, from one file descriptor to another: B of each row, the reach in the
 // later rows asked for, and the largest over the wall.
-mod lines;
-mod told;
-
+use steps::Take;
+use steps::rows::copy;
 use stream::Ended;
 use stream::State;
 use stream::Turn;
 use stream::finish;
 use stream::ready;
-use stream::window::Window;
-use told::tell;
-use wall::Take;
-use wall::rows::copy;
+use telling::tell;
+use window::Window;
 ghost use mathlib.Core.Path.{_≡_};
 ghost use Prim.Native.Nat.{_+_, _≤_};
 ghost use lib.ListN.{length, take};
-ghost use Rattle.wall.specs.Operation.{width-of, step-room};
+ghost use Rattle.steps.specs.Fit.{width-of};
+ghost use Rattle.lines.specs.Row.{step-room};
 ghost use Rattle.wall.specs.Stands.{Stands};
 ghost use Rattle.stream.specs.State.{Between};
 ghost use Rattle.search.specs.Moved.{Went-on, Moved};

@@ -1,3 +1,3 @@
-pub mod Window
+-- The laws of the definitions, each file over one of them.
 pub mod State
 pub mod Held

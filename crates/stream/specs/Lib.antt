@@ -1,3 +1,1 @@
-pub mod Window
 pub mod State
-pub mod Promises

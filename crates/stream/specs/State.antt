@@ -4,14 +4,11 @@ use mathlib.Core.Bool.{Bool, false, cond, _||_}
 use mathlib.Core.List.{List}
 use Prim.Native.Nat.{ℕ, _+_, _≤_}
 use lib.Dec.{ltb}
-use lib.ListN.{length, take, drop}
-use Rattle.text.specs.Wrote.{Wrote}
-use Rattle.wall.specs.File.{texts-of}
-use Rattle.wall.specs.Step.{Stepped, step-of}
-use Rattle.wall.specs.Operation.{due-of, width-of, step-room}
-use Rattle.stream.specs.Window.{Within, bytes-in, lacking, Filled-up}
+use Rattle.steps.specs.Fit.{due-of}
+use Rattle.lines.specs.Row.{step-room}
+use Rattle.window.specs.Window.{Within, lacking, Filled-up}
 use Rattle.wall.specs.Stands.{Stands}
-use Rattle.wall.specs.declared.Wall.the-variants.{New}
+use Rattle.steps.specs.declared.Wall.the-variants.{New}
 use Rattle.stream.specs.declared.State.{State}
 use Rattle.stream.specs.declared.Ended.the-variants.{Done}
 use Rattle.stream.specs.declared.Turn.{Turn}
@@ -47,16 +44,3 @@ pub record Made-ready (s : State) (before : List ℕ) (output : ℕ) (r : State)
 unfoldable pub made-ready : State → (before : List ℕ) → (output : ℕ) → Turn → (after : List ℕ) → Type 0
 made-ready s before n (On r) after = Made-ready s before n r after
 made-ready s before n (Stop e) after = e ≡ Done → ⊥
-
--- the step that is taken: on the wall's row, with the due part of the bytes in the window
-unfoldable pub taken-step : State → (input times : List ℕ) → Stepped
-taken-step s input ts = step-of (s .wall) (take (width-of (s .wall)) ts) (take (due-of (s .wall)) (bytes-in (s .window) input))
-
--- what the step leaves: the bytes after the due part, and its text behind what stood in the buffer
-pub record Advanced (s : State) (input times output : List ℕ) (r : State) (times-after output-after : List ℕ) : Type 0 where
-  pub next : r .wall ≡ taken-step s input times .next
-  pub within : Within (r .window) (length input)
-  pub rest : bytes-in (r .window) input ≡ drop (due-of (s .wall)) (bytes-in (s .window) input)
-  pub flag : r .window .ended ≡ s .window .ended
-  pub row : take (width-of (s .wall)) times-after ≡ taken-step s input times .row
-  pub text : Wrote output (s .text) (texts-of (taken-step s input times .shows)) output-after (r .text)

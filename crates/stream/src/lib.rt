@@ -1,21 +1,16 @@
-// Runs a wall file from one file descriptor to another. The part of the file that is due is read, its
-// step is taken, and the text of what is then shown is written.
+// A run over a wall file, between two of its steps: what is read and not yet taken, and text not yet written.
 //
-// No contract can say which bytes a system call reads or writes. Those here say the rest, and
-// specs/Promises.antt what follows where the reads deliver a file.
-pub mod window;
-
-use wall::Step;
-use wall::Wall;
+// No contract can say which bytes a system call reads or writes. Those here say the rest.
+use steps::Wall;
 use window::Filled;
 use window::Window;
 ghost use mathlib.Core.Path.{_≡_};
-ghost use Prim.Native.Nat.{_+_, _≤_};
+ghost use Prim.Native.Nat.{_≤_};
 ghost use lib.ListN.{length};
-ghost use Rattle.text.specs.Word.{Tables};
-ghost use Rattle.wall.specs.Operation.{due-of, step-room};
-ghost use Rattle.wall.specs.declared.Wall.the-variants.{Over};
-ghost use Rattle.stream.specs.State.{Starts, Between, made-ready, Advanced};
+ghost use Rattle.steps.specs.Fit.{due-of};
+ghost use Rattle.lines.specs.Row.{step-room};
+ghost use Rattle.steps.specs.declared.Wall.the-variants.{Over};
+ghost use Rattle.stream.specs.State.{Starts, Between, made-ready};
 
 // How a run ended.
 pub enum Ended {
@@ -66,41 +61,6 @@ pub enum Turn {
     Stop(Ended),
 }
 
-// Reads from one descriptor and writes to the other, some 64 KB a call.
-pub fn run(from: i32, to: i32) -> Ended {
-    let mut input = io::large_buffer();
-    let mut output = io::large_buffer();
-    let mut row = [0u64; 256];
-    let mut tables = text::table::space();
-    text::table::fill(&mut tables);
-    run_in(from, to, &tables, &mut input, &mut row, &mut output)
-}
-
-// Steps until nothing is due.
-fn run_in(
-    from: i32,
-    to: i32,
-    tables: &[u64],
-    input: &mut [u8],
-    row: &mut [u64],
-    output: &mut [u8],
-) -> Ended
-    requires { ⌜ Tables (now tables) × (6710 ≤ length (now input)) × (256 ≤ length (now row)) × (step-room ≤ length (now output)) ⌝ }
-{
-    let mut state = State::start();
-    while state.due() != 0 {
-        match ready(from, to, state, input, output) {
-            Turn::On(next) => {
-                state = advance(tables, next, input, row, output);
-            }
-            Turn::Stop(ended) => {
-                return ended;
-            }
-        }
-    }
-    finish(to, state, output)
-}
-
 // Writes the last text. Only here a run is done, and the wall is over.
 pub fn finish(to: i32, state: State, output: &[u8]) -> Ended
     requires { ⌜ (state .wall ≡ Over) × (state .text ≤ length (now output)) ⌝ }
@@ -123,7 +83,7 @@ pub fn ready(from: i32, to: i32, state: State, input: &mut [u8], output: &[u8]) 
     let window = state.window;
     let text = state.text;
     if !window.lacks(due) {
-        if text <= output.len() - wall::ROOM {
+        if text <= output.len() - lines::ROOM {
             return Turn::On(state);
         }
     }
@@ -140,33 +100,5 @@ pub fn ready(from: i32, to: i32, state: State, input: &mut [u8], output: &[u8]) 
             })
         }
         Filled::Failed => Turn::Stop(Ended::ReadFailed),
-    }
-}
-
-// Takes the step of the due part, or of what is left where the input has ended.
-fn advance(tables: &[u64], state: State, input: &[u8], row: &mut [u64], output: &mut [u8]) -> State
-    requires { ⌜ Tables (now tables) × Between state (length (now input)) (length (now output)) × (256 ≤ length (now row)) × (state .text + step-room ≤ length (now output)) ⌝ }
-    ensures { λ r. ⌜ Advanced state (now (input .entry)) (now (row .entry)) (now (output .entry)) r (now (row .exit)) (now (output .exit)) ⌝ }
-{
-    let wall = state.wall;
-    let window = state.window;
-    let text = state.text;
-    let start = window.start;
-    let stop = window.part_end(wall.due());
-    let width = wall.width();
-    match wall.step_by(tables, &input[start..stop], &mut row[..width], output, text) {
-        Step::Went(went) => {
-            let next = went.wall;
-            State {
-                wall: next,
-                window: Window {
-                    start: stop,
-                    end: window.end,
-                    ended: window.ended,
-                },
-                text: went.end,
-            }
-        }
-        Step::Unfit => state,
     }
 }

@@ -1,26 +1,13 @@
-// The text of a wall's rows, written into a lent buffer. Each writer takes the place to write at and
-// answers where its text ends.
-mod head;
-mod near;
-pub mod number;
-mod seams;
-pub mod table;
-mod tiles;
-mod word;
-
-use number::byte;
-use number::spaced;
-use number::word;
-use seams::seams;
-use tiles::tiles;
+// The lines of a row, written into a lent buffer: its tiles, then its seams.
+use seam_lines::seams;
+use tile_lines::tiles;
 ghost use mathlib.Core.Path.{_≡_};
 ghost use Prim.Native.Nat.{_+_, _≤_};
 ghost use lib.ListN.{length};
-ghost use Rattle.row.specs.Refusal.{mark-bytes};
-ghost use Rattle.text.specs.Line.{refused-line};
-ghost use Rattle.text.specs.Row.{row-text, row-room};
-ghost use Rattle.text.specs.Word.{Tables};
-ghost use Rattle.text.specs.Wrote.{Wrote};
+ghost use Rattle.columns.specs.Marks.{mark-bytes};
+ghost use Rattle.lines.specs.Row.{row-text, row-room};
+ghost use Rattle.lines.specs.Wrote.{Wrote};
+ghost use Rattle.tables.specs.Word.{Tables};
 
 // Writes the lines of a row: its tiles, then its seams. `table::fill` makes the tables.
 pub fn row_lines(
@@ -39,16 +26,4 @@ pub fn row_lines(
     let mut codes = [0u64; 256];
     let end = tiles(tables, width, row, marks, times, &mut codes, out, at);
     seams(tables, width, row, marks, times, &codes, out, end)
-}
-
-// Writes the line of a refusal.
-pub fn refused_line(number: u64, offset: u64, out: &mut [u8], at: usize) -> usize
-    requires { ⌜ at + 64 ≤ length (now out) ⌝ }
-    ensures { λ r. ⌜ Wrote (now (out .entry)) at (refused-line number offset) (now (out .exit)) r ⌝ }
-{
-    let refused = word(b"refused", out, at);
-    let numbered = spaced(number, out, refused);
-    let placed = word(b" at", out, numbered);
-    let end = spaced(offset, out, placed);
-    byte(b'\n', out, end)
 }

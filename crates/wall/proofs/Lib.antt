@@ -1,3 +1,3 @@
 pub mod Laws
-pub mod Promises
 pub mod Contract
+pub mod Promises

@@ -6,25 +6,27 @@ use Prim.Native.Nat.{ℕ, zero, suc, _+_, _≤_}
 use lib.ListN.{length, getD}
 use native.Mathlib.Omega.{arith}
 use borrow.Author.Tests.{eq-eqb, ne-eqb, ltb-false}
-use Rattle.rule.specs.Refusal.{any-below}
-use Rattle.rule.specs.Settings.{settings-refusal}
-use Rattle.rule.specs.declared.settings.Settings.{Settings}
-use Rattle.rule.proofs.Laws.AnyBelow.{none-below}
-use Rattle.rule.proofs.Laws.Cases.{by-equal}
-use Rattle.rule.proofs.Laws.Settings.{limits}
-use Rattle.row.specs.Run.{rows}
-use Rattle.row.specs.Reach.{One-fault}
-use Rattle.row.proofs.Laws.Run.{run-of}
-use Rattle.row.proofs.Promises.{one-fault}
-use Rattle.wall.specs.Field.{field-refusal, body}
-use Rattle.wall.specs.Contents.{settings-size, start-size, times-in, late-start}
-use Rattle.wall.specs.File.{turned-away, settings-number, start-number, rows-shown, start-shown, shown}
-use Rattle.wall.specs.Limits.{settings-of, after-settings, start-of, after-start, calls-in, calls-of, rows-of, Keeps, number-shown}
+use Rattle.settings.specs.Refusal.{any-below}
+use Rattle.settings.specs.Settings.{settings-refusal}
+use Rattle.settings.specs.declared.Settings.{Settings}
+use Rattle.settings.proofs.Laws.AnyBelow.{none-below}
+use Rattle.settings.proofs.Laws.Cases.{by-equal}
+use Rattle.settings.proofs.Laws.Settings.{limits}
+use Rattle.runs.specs.Run.{rows}
+use Rattle.runs.specs.Reach.{One-fault}
+use Rattle.runs.proofs.Laws.Run.{run-of}
+use Rattle.runs.proofs.Promises.{one-fault}
+use Rattle.fields.specs.Field.{field-refusal, body}
+use Rattle.contents.specs.Contents.{settings-size, start-size, times-in, late-start}
+use Rattle.steps.specs.Shown.{turned-away, number-shown}
+use Rattle.steps.specs.Number.{settings-number, start-number}
+use Rattle.wall.specs.File.{rows-shown, start-shown, shown}
+use Rattle.wall.specs.Limits.{settings-of, after-settings, start-of, after-start, calls-in, calls-of, rows-of, Keeps}
 use Rattle.wall.specs.Program.{Calls-right, Reached-fits}
 use Rattle.wall.specs.Promises.{Steps-right, Accepted-whole, Others-refused, Numbers-met, Seams-answered, File-is-run, File-one-fault}
 use Rattle.wall.proofs.Laws.Calls.{calls-right as calls-law}
-use Rattle.wall.proofs.Laws.Contents.{times-length}
-use Rattle.wall.proofs.Laws.Field.{else-none, else-other}
+use Rattle.contents.proofs.Laws.Contents.{times-length}
+use Rattle.fields.proofs.Laws.Field.{else-none, else-other}
 use Rattle.wall.proofs.Laws.Numbers.{rows-met, settings-number-met, start-number-met}
 use Rattle.wall.proofs.Laws.Reached.{reached-fits as reached-law}
 use Rattle.wall.proofs.Laws.Rows.{Grown, rows-accepted, all-taken, rows-kept}

@@ -1,11 +1,5 @@
-pub mod Bytes
-pub mod Field
-pub mod Contents
 pub mod File
-pub mod Step
-pub mod Operation
-pub mod Take
-pub mod Stands
-pub mod Program
 pub mod Limits
 pub mod Promises
+pub mod Program
+pub mod Stands

@@ -4,15 +4,17 @@ use mathlib.Core.Bool.{false}
 use mathlib.Core.List.{List, [], _∷_, _++_}
 use Prim.Native.Nat.{ℕ, zero, suc, _+_, _*_}
 use lib.ListN.{drop}
-use Rattle.rule.specs.Refusal.{any-below}
-use Rattle.rule.specs.Settings.{settings-refusal}
-use Rattle.rule.specs.declared.settings.Settings.{Settings}
-use Rattle.row.specs.Call.{Call}
-use Rattle.row.specs.Refusal.{mark-bytes, stray-mark, crowded, fast, bad-links}
-use Rattle.row.specs.Run.{rows}
-use Rattle.wall.specs.Field.{field-refusal, body}
-use Rattle.wall.specs.Contents.{settings-size, settings-in, start-size, times-in, late-start, tiles-size, marks-field, row-size, call-in}
-use Rattle.wall.specs.File.{Shown, turned-away, lines, row-shown, no-marks}
+use Rattle.settings.specs.Refusal.{any-below}
+use Rattle.settings.specs.Settings.{settings-refusal}
+use Rattle.settings.specs.declared.Settings.{Settings}
+use Rattle.admission.specs.Call.{Call}
+use Rattle.columns.specs.Marks.{mark-bytes}
+use Rattle.admission.specs.Refusal.{stray-mark, crowded, fast}
+use Rattle.links.specs.Links.{bad-links}
+use Rattle.runs.specs.Run.{rows}
+use Rattle.fields.specs.Field.{field-refusal, body}
+use Rattle.contents.specs.Contents.{settings-size, settings-in, start-size, times-in, late-start, tiles-size, marks-field, row-size, call-in}
+use Rattle.steps.specs.Shown.{Shown, row-shown, no-marks}
 
 -- the settings, the row 0 times and the row calls that a file describes
 unfoldable pub settings-of : (file : List ℕ) → Settings
@@ -67,15 +69,3 @@ unfoldable pub run-shown : Settings → (l : ℕ) → (calls : List Call) → (r
 run-shown s l [] ts rs = row-shown s l (no-marks (s .width)) ts
 run-shown s l (x ∷ xs) ts [] = []
 run-shown s l (x ∷ xs) ts (r ∷ rs) = row-shown s l (x .marks) ts ++ run-shown s (suc l) xs r rs
-
--- the number of the refusal that is shown, 0 where there is none
-unfoldable pub number-shown : List Shown → ℕ
-number-shown [] = 0
-number-shown (lines w l ms ts ∷ xs) = number-shown xs
-number-shown (turned-away n at ∷ xs) = n
-
--- and its offset
-unfoldable pub offset-shown : List Shown → ℕ
-offset-shown [] = 0
-offset-shown (lines w l ms ts ∷ xs) = offset-shown xs
-offset-shown (turned-away n at ∷ xs) = at

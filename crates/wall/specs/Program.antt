@@ -5,21 +5,22 @@ use mathlib.Core.List.{List, [], _++_}
 use Prim.Native.Nat.{ℕ, _≤_}
 use lib.ListN.{length, take, drop}
 use Rattle.wall.specs.File.{wall-text}
-use Rattle.wall.specs.Step.{step-of}
-use Rattle.wall.specs.Operation.{due-of, wall-fits, Stepping}
-use Rattle.wall.specs.declared.Wall.{Wall}
-use Rattle.wall.specs.declared.Wall.the-variants.{New, Start, Over}
-use Rattle.wall.specs.declared.Place.{Place}
-use Rattle.wall.specs.declared.Went.{Went}
-use Rattle.wall.specs.declared.Step.{Step}
-use Rattle.wall.specs.declared.Step.the-variants as step
+use Rattle.steps.specs.Step.{step-of}
+use Rattle.steps.specs.Fit.{due-of, wall-fits}
+use Rattle.show.specs.Operation.{Stepping}
+use Rattle.steps.specs.declared.Wall.{Wall}
+use Rattle.steps.specs.declared.Wall.the-variants.{New, Start, Over}
+use Rattle.steps.specs.declared.Place.{Place}
+use Rattle.show.specs.declared.Went.{Went}
+use Rattle.show.specs.declared.Answer.{Answer}
+use Rattle.show.specs.declared.Answer.the-variants as step
 
 -- calls over a file until it is over: each is given as many bytes as are due, fewer only where the file ends, the row that the
 -- last one left, and room in any buffer; `text` is what they wrote there, one after the other. For row 0 any row of W may be lent.
 pub data Calls : (wall : Wall) → (row rest text : List ℕ) → Type 0 where
   over : {row rest : List ℕ} → Calls Over row rest []
   lent : {p : Place} {row rest text : List ℕ} (held : List ℕ) → Calls (Start p) row rest text → Calls (Start p) held rest text
-  took : {x : Wall} {row rest text : List ℕ} (held : List ℕ) (at : ℕ) (answer : Step) (went : Went) (row-after out : List ℕ) → at ≤ length held →
+  took : {x : Wall} {row rest text : List ℕ} (held : List ℕ) (at : ℕ) (answer : Answer) (went : Went) (row-after out : List ℕ) → at ≤ length held →
       Stepping x (take (due-of x) rest) row held at answer row-after out → answer ≡ step.Went went → Calls (went .wall) row-after (drop (due-of x) rest) text →
       Calls x row rest (drop at (take (went .end) out) ++ text)
 

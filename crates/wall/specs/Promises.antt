@@ -7,17 +7,17 @@ use mathlib.Core.Option.{some}
 use Prim.Native.Nat.{ℕ, _<_}
 use lib.Dec.{leb, eqb}
 use lib.ListN.{length, getD}
-use Rattle.row.specs.Columns.{are-neighbours}
-use Rattle.row.specs.Call.{marked}
-use Rattle.row.specs.Refusal.{any-of}
-use Rattle.row.specs.Run.{taken}
-use Rattle.row.specs.Reach.{Alike, Reach}
+use Rattle.columns.specs.Columns.{are-neighbours, any-of}
+use Rattle.columns.specs.Marks.{marked}
+use Rattle.runs.specs.Run.{taken}
+use Rattle.runs.specs.Reach.{Alike, Reach}
 use Rattle.seam.specs.Seam.{seam-of, number-of, side-of}
 use Rattle.seam.specs.declared.Side.the-variants.{Both}
-use Rattle.wall.specs.File.{Shown, lines, turned-away, shown}
-use Rattle.wall.specs.Step.{steps-shown}
-use Rattle.wall.specs.Limits.{settings-of, start-of, calls-of, rows-of, Keeps, run-shown, number-shown}
-use Rattle.wall.specs.declared.Wall.the-variants.{New}
+use Rattle.steps.specs.Shown.{Shown, lines, turned-away, number-shown}
+use Rattle.wall.specs.File.{shown}
+use Rattle.steps.specs.Step.{steps-shown}
+use Rattle.wall.specs.Limits.{settings-of, start-of, calls-of, rows-of, Keeps, run-shown}
+use Rattle.steps.specs.declared.Wall.the-variants.{New}
 
 -- running the steps over any bytes, whatever the row held, shows what the definition of the whole shows, and 1,027 steps are
 -- enough

@@ -23,7 +23,7 @@ fn case(i: usize) {
         os::fail(name);
         return;
     }
-    match stream::run(file, STDOUT_FILENO) {
+    match print::run(file, STDOUT_FILENO) {
         Ended::Done => {}
         Ended::ReadFailed => os::fail(name),
         Ended::WriteFailed => os::fail(name),

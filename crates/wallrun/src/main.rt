@@ -4,7 +4,7 @@ use libc::STDOUT_FILENO;
 use stream::Ended;
 
 fn main() {
-    match stream::run(STDIN_FILENO, STDOUT_FILENO) {
+    match print::run(STDIN_FILENO, STDOUT_FILENO) {
         Ended::Done => {}
         Ended::ReadFailed => os::fail(b"wallrun: reading"),
         Ended::WriteFailed => os::fail(b"wallrun: writing"),

@@ -1,6 +1,6 @@
 -- `polzaintu_reach` meets its contract. Assumes nothing.
 use mathlib.Core.Path.{_≡_, sym, _∙_, ap}
-use Rattle.rule.specs.declared.settings.Settings.{Settings}
+use Rattle.settings.specs.declared.Settings.{Settings}
 use Rattle.reach.specs.Search.{reach-of}
 use Rattle.polzaintu.specs.Words.{settings-from}
 use Rattle.polzaintu.specs.Answers.{reach-number, reach-left}

@@ -1,9 +1,9 @@
 -- `polzaintu_row` meets its contract. Assumes nothing.
 use mathlib.Core.Path.{_≡_, sym, _∙_, ap}
 use lib.ListN.{length}
-use Rattle.rule.specs.declared.settings.Settings.{Settings}
-use Rattle.row.specs.Call.{Call, call}
-use Rattle.row.specs.Refusal.{planned, written, number-of}
+use Rattle.settings.specs.declared.Settings.{Settings}
+use Rattle.admission.specs.Call.{Call, call}
+use Rattle.row.specs.Row.{planned, written, number-of}
 use Rattle.polzaintu.specs.Words.{settings-from}
 use Rattle.polzaintu.specs.Answers.{ends-left}
 use borrow.Author.Needs.{needs}

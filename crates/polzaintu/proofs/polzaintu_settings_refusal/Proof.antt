@@ -1,6 +1,6 @@
 -- `polzaintu_settings_refusal` meets its contract. Assumes nothing.
 use mathlib.Core.Path.{_∙_, ap}
-use Rattle.rule.specs.Settings.{settings-refusal}
+use Rattle.settings.specs.Settings.{settings-refusal}
 use borrow.Author.Needs.{needs}
 use Rattle.polzaintu.proofs.polzaintu_settings_refusal.Statement.{statement}
 use Rattle.polzaintu.proofs.polzaintu_settings_refusal.Tie as tie

@@ -5,8 +5,8 @@ use lib.IntN.{ℤ, pos}
 use mir.Syntax.{w64}
 use mir.Val.{toZ, ofZ}
 use mir.ValLaws.{toZ-ofZ}
-use Rattle.rule.specs.Tile.{forwarded, number-of}
-use Rattle.rule.specs.declared.settings.Settings.{Settings}
+use Rattle.tile.specs.Tile.{forwarded, number-of}
+use Rattle.settings.specs.declared.Settings.{Settings}
 use Rattle.polzaintu.specs.Words.{settings-from, stamps-in}
 use Rattle.polzaintu.specs.Answers.{forwarded-left}
 use borrow.Author.Needs.{needs}

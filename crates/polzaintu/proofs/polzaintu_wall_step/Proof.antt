@@ -2,8 +2,8 @@
 use mathlib.Core.Path.{_≡_, sym, _∙_, ap}
 use lib.ListN.{length}
 use borrow.Author.Tests.{eq-eqb, ne-eqb}
-use Rattle.wall.specs.Take.{take-of, row-after}
-use Rattle.wall.specs.declared.Wall.{Wall}
+use Rattle.steps.specs.Take.{take-of, row-after}
+use Rattle.steps.specs.declared.Wall.{Wall}
 use Rattle.polzaintu.specs.Words.{place-in, wall-in, wall-words}
 use Rattle.polzaintu.specs.Answers.{step-number, wall-left, offset-left}
 use borrow.Author.Needs.{needs}

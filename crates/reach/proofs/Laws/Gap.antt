@@ -5,12 +5,12 @@ use mathlib.Core.List.{List}
 use Prim.Native.Nat.{ℕ, zero, suc, _+_, _-_, _≤_, _<_, max}
 use lib.ListN.{length, getD}
 use native.Mathlib.Omega.{arith}
-use Rattle.rule.proofs.Laws.Cases.{by-equal}
-use Rattle.row.specs.Columns.{are-neighbours, columns-from, neighbours}
-use Rattle.row.specs.Reach.{apart, widest, gap-below, widest-gap}
-use Rattle.row.proofs.Laws.Columns.{next, first-third, third-last}
-use Rattle.row.proofs.Laws.Lists.{by-test}
-use Rattle.row.proofs.Laws.Reach.{neighbours-apart}
+use Rattle.settings.proofs.Laws.Cases.{by-equal}
+use Rattle.columns.specs.Columns.{are-neighbours, columns-from, neighbours}
+use Rattle.runs.specs.Reach.{apart, widest, gap-below, widest-gap}
+use Rattle.columns.proofs.Laws.Columns.{next, first-third, third-last}
+use Rattle.columns.proofs.Laws.Lists.{by-test}
+use Rattle.runs.proofs.Laws.Reach.{neighbours-apart}
 use Rattle.reach.proofs.Laws.Neighbours.{by-neighbours}
 
 apart-turned : (a b : ℕ) → apart a b ≡ apart b a

@@ -3,9 +3,9 @@ use mathlib.Core.Path.{_≡_, sym, _∙_}
 use mathlib.Core.Bool.{true, true≢false}
 use Prim.Native.Nat.{ℕ, suc, _+_, _-_, _<_}
 use native.Mathlib.Omega.{arith}
-use Rattle.rule.proofs.Laws.Cases.{by-equal}
-use Rattle.row.specs.Columns.{are-neighbours, Way, stay, hop, Within}
-use Rattle.row.proofs.Laws.Columns.{next, previous, first-third, third-first, third-last, last-third, strangers}
+use Rattle.settings.proofs.Laws.Cases.{by-equal}
+use Rattle.columns.specs.Columns.{are-neighbours, Way, stay, hop, Within}
+use Rattle.columns.proofs.Laws.Columns.{next, previous, first-third, third-first, third-last, last-third, strangers}
 
 -- a claim by whether two equalities hold
 by-both {ℓ} : {C : Type ℓ} (a b c d : ℕ) → (a ≡ b → c ≡ d → C) → ((a ≡ b → c ≡ d → ⊥) → C) → C

@@ -5,9 +5,9 @@ use Prim.Native.Nat.{ℕ, _≤_, _<_}
 use lib.Dec.{ltb}
 use native.Mathlib.Omega.{arith}
 use borrow.Author.Tests.{eq-eqb, ne-eqb, lt-ltb, le-ltb, ltb-false}
-use Rattle.rule.specs.Tile.{latest-stamp}
-use Rattle.rule.specs.declared.settings.Settings.{Settings}
-use Rattle.rule.proofs.Laws.Cases.{by-equal, by-order}
+use Rattle.rule.specs.Stamp.{latest-stamp}
+use Rattle.settings.specs.declared.Settings.{Settings}
+use Rattle.settings.proofs.Laws.Cases.{by-equal, by-order}
 use Rattle.reach.specs.Search.{outside-wall}
 
 module _ (s : Settings) (b n k : ℕ) where

@@ -3,9 +3,9 @@ use mathlib.Core.Path.{_≡_, refl, sym, subst}
 use Prim.Native.Nat.{ℕ, zero, suc, _+_, _-_, _≤_, _<_, min}
 use native.Mathlib.Omega.{arith}
 use borrow.Author.Tests.{eq-eqb, ne-eqb, lt-ltb, le-ltb}
-use Rattle.rule.proofs.Laws.Cases.{by-order, by-equal}
-use Rattle.row.specs.Columns.{Way, stay, hop, Within}
-use Rattle.row.proofs.Laws.Columns.{next, first-third, third-last}
+use Rattle.settings.proofs.Laws.Cases.{by-order, by-equal}
+use Rattle.columns.specs.Columns.{Way, stay, hop, Within}
+use Rattle.columns.proofs.Laws.Columns.{next, first-third, third-last}
 use Rattle.reach.specs.Span.{first-within, last-within, Spanned}
 use Rattle.reach.proofs.Laws.Neighbours.{by-neighbours, mirrored-within}
 

@@ -6,12 +6,12 @@ use Prim.Native.Nat.{ℕ, zero, suc, _+_, _-_, _≤_, _<_, max}
 use lib.ListN.{length, getD, take}
 use native.Mathlib.Omega.{arith}
 use borrow.Author.Tests.{eq-eqb, le-ltb}
-use Rattle.rule.specs.Settings.{settings-refusal}
-use Rattle.rule.specs.Tile.{latest-stamp}
-use Rattle.rule.specs.declared.settings.Settings.{Settings}
-use Rattle.rule.proofs.Laws.Settings.{limits}
-use Rattle.row.specs.Run.{row-at}
-use Rattle.row.specs.Reach.{apart, widest-gap}
+use Rattle.settings.specs.Settings.{settings-refusal}
+use Rattle.rule.specs.Stamp.{latest-stamp}
+use Rattle.settings.specs.declared.Settings.{Settings}
+use Rattle.settings.proofs.Laws.Settings.{limits}
+use Rattle.runs.specs.Run.{row-at}
+use Rattle.runs.specs.Reach.{apart, widest-gap}
 use Rattle.reach.specs.Search.{gap-of, reach-of, outside-wall}
 use Rattle.reach.specs.Survey.{with-reach, with-gap, surveyed-of, last-reach, largest-of}
 use Rattle.reach.specs.declared.survey.Surveyed.the-variants as surveyed

@@ -1,6 +1,6 @@
 -- `apart` meets its contract. Assumes nothing.
 use native.Mathlib.Omega.{arith}
-use Rattle.row.specs.Reach.{apart as Reach·apart}
+use Rattle.runs.specs.Reach.{apart as Reach·apart}
 use borrow.Author.Needs.{needs}
 use Rattle.reach.proofs.apart.Statement.{statement}
 use Rattle.reach.proofs.apart.Tie as tie

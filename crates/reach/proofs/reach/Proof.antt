@@ -3,8 +3,8 @@ use mathlib.Core.Path.{_≡_, sym, _∙_}
 use Prim.Native.Nat.{_-_, _≤_}
 use native.Mathlib.Omega.{arith}
 use borrow.Author.Tests.{eq-eqb, ne-eqb}
-use Rattle.rule.specs.Settings.{settings-refusal}
-use Rattle.rule.proofs.Laws.Settings.{limits}
+use Rattle.settings.specs.Settings.{settings-refusal}
+use Rattle.settings.proofs.Laws.Settings.{limits}
 use Rattle.reach.specs.Span.{last-within}
 use Rattle.reach.specs.Search.{reach-ticks, reach-of}
 use Rattle.reach.proofs.Laws.Search.{Inside, in-wall}

@@ -2,7 +2,7 @@
 use mathlib.Core.Path.{_≡_, sym, _∙_}
 use native.Mathlib.Omega.{arith}
 use borrow.Author.Tests.{eq-eqb, ne-eqb, lt-ltb, le-ltb}
-use Rattle.rule.specs.Settings.{settings-refusal}
+use Rattle.settings.specs.Settings.{settings-refusal}
 use Rattle.reach.specs.Search.{reach-in-row}
 use borrow.Author.Needs.{needs}
 use Rattle.reach.proofs.reach_in_row.Statement.{statement}

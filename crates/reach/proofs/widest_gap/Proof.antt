@@ -3,9 +3,9 @@ use mathlib.Core.Path.{_≡_, sym, _∙_, ap}
 use Prim.Native.Nat.{ℕ}
 use native.Mathlib.Omega.{arith}
 use borrow.Author.Tests.{eq-eqb, ne-eqb}
-use Rattle.rule.specs.Settings.{settings-refusal}
-use Rattle.rule.proofs.Laws.Settings.{limits}
-use Rattle.row.specs.Reach.{widest-gap}
+use Rattle.settings.specs.Settings.{settings-refusal}
+use Rattle.settings.proofs.Laws.Settings.{limits}
+use Rattle.runs.specs.Reach.{widest-gap}
 use Rattle.reach.specs.Search.{gap-of}
 use Rattle.reach.specs.declared.Gap.the-variants.{Widest}
 use borrow.Author.Needs.{needs}

@@ -7,11 +7,11 @@ use lib.Seq.{getD-set-same, getD-set-other, ext-getD}
 use native.Mathlib.Numerals.{add-one}
 use native.Mathlib.Omega.{arith}
 use Rattle.rule.specs.Stamp.{silence}
-use Rattle.rule.proofs.Laws.Cases.{by-equal}
-use Rattle.row.specs.Call.{table-from}
-use Rattle.row.specs.Refusal.{least-of, most-of}
+use Rattle.settings.proofs.Laws.Cases.{by-equal}
+use Rattle.columns.specs.Columns.{table-from}
+use Rattle.row.specs.Row.{least-of, most-of}
 use Rattle.row.specs.Progress.{Filled}
-use Rattle.row.proofs.Laws.Lists.{table-length, table-at}
+use Rattle.columns.proofs.Laws.Lists.{table-length, table-at}
 
 module _ (f : ℕ → ℕ) where
   least-grows : (n a : ℕ) → least-of (table-from (suc n) a f) ≡ min (least-of (table-from n a f)) (f (a + n))

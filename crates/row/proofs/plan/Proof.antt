@@ -7,14 +7,17 @@ use lib.ListN.{length}
 use native.Mathlib.Omega.{arith}
 use borrow.Author.Needs.{needs}
 use borrow.Author.Tests.{eq-eqb, ne-eqb}
-use Rattle.rule.specs.Settings.{step-of}
-use Rattle.rule.specs.declared.settings.Settings.{Settings}
-use Rattle.rule.proofs.Laws.Settings.{limits}
-use Rattle.row.specs.Call.{Call, call, pulse, table-from, row-of}
-use Rattle.row.specs.Refusal.{row-refusal, least-of, most-of, planned, written}
+use Rattle.settings.specs.Settings.{step-of}
+use Rattle.settings.specs.declared.Settings.{Settings}
+use Rattle.settings.proofs.Laws.Settings.{limits}
+use Rattle.admission.specs.Call.{Call, call}
+use Rattle.pulse.specs.Pulse.{pulse}
+use Rattle.columns.specs.Columns.{table-from}
+use Rattle.row.specs.Row.{row-of, least-of, most-of, planned, written}
+use Rattle.admission.specs.Refusal.{row-refusal}
 use Rattle.row.specs.Progress.{Filled}
 use Rattle.row.specs.declared.Planned.the-variants.{Row, Refused}
-use Rattle.row.proofs.Laws.Accepted.{Accepted, accepted}
+use Rattle.admission.proofs.Laws.Accepted.{Accepted, accepted}
 use Rattle.row.proofs.Laws.Table.{none-filled, held-as, all-filled}
 use Rattle.row.proofs.plan.Statement.{statement}
 use Rattle.row.proofs.plan.Tie as tie

@@ -5,9 +5,9 @@ use mathlib.Core.Path.{_≡_}
 use Prim.Native.Nat.{ℕ, _+_, _-_, _*_, _≤_, _<_}
 use native.Mathlib.Nat.{mul-le-mul-right, lt-of-mul-lt-mul-right}
 use native.Mathlib.Omega.{arith}
-use Rattle.rule.specs.Rounding.{up}
+use Rattle.settings.specs.Rounding.{up}
 use Rattle.rule.specs.Clock.{million, reads, first-tick}
-use Rattle.rule.proofs.Laws.Rounding.{up-reaches, up-least, up-mono}
+use Rattle.settings.proofs.Laws.Rounding.{up-reaches, up-least, up-mono}
 
 -- how far a reading can move when its tick moves by n
 unfoldable pub moves : (drift n : ℕ) → ℕ

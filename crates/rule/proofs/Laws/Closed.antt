@@ -11,7 +11,7 @@ use Rattle.rule.specs.Signed.{smaller}
 use Rattle.rule.specs.Stamp.{Stamp, heard, silent, _≼_, in-order, last}
 use Rattle.rule.specs.Forward.{larger-at, least-to, D, heard-correction, P}
 use Rattle.rule.specs.Closed.{lift, middle, heard-P, closed-P}
-use Rattle.rule.proofs.Laws.Cases.{by-order}
+use Rattle.settings.proofs.Laws.Cases.{by-order}
 use Rattle.rule.proofs.Laws.Signed.{sub-pos, sub-same, minus, sub-plus, sub-minus, minus-sub, sub-le, sub-≤, sub-not-le, sub-larger, sub-smaller, sub-negative, sub-not-negative, pos-sub}
 use Rattle.rule.proofs.Laws.Middle.{Turn, lift-most, lift-turn}
 use Rattle.rule.proofs.Laws.Heard.{waits, decides, hurries}

@@ -8,10 +8,10 @@ use native.Mathlib.Omega.{arith}
 use borrow.Author.Tests.{eq-eqb, ne-eqb}
 use Rattle.rule.specs.Stamp.{Stamp, heard, silent, _≼_, in-order, last, silence, stamp-of, code-of, earlier, later, earliest, latest}
 use Rattle.rule.specs.Closed.{heard-P, closed-P, Forwardable}
-use Rattle.rule.specs.Settings.{step-of}
-use Rattle.rule.specs.declared.settings.Settings.{Settings}
+use Rattle.settings.specs.Settings.{step-of}
+use Rattle.settings.specs.declared.Settings.{Settings}
 use Rattle.rule.proofs.Laws.Stamp.{By, heard-by, unheard, earlier-by, later-by}
-use Rattle.rule.proofs.Laws.Settings.{Limits, step-small}
+use Rattle.settings.proofs.Laws.Settings.{Limits, step-small}
 use Rattle.rule.proofs.Laws.Forward.{Enough, with-own, without-own, P-most}
 
 pub stamp-silent : (v : ℕ) → v ≡ silence → stamp-of v ≡ silent

@@ -6,7 +6,7 @@ use Prim.Native.Nat.{ℕ, _+_, _-_, _*_, _≤_, _<_, min, max}
 use native.Mathlib.Omega.{arith}
 use borrow.Author.Tests.{lt-ltb, le-ltb, le-leb, lt-leb}
 use Rattle.rule.specs.Closed.{middle, heard-P}
-use Rattle.rule.proofs.Laws.Cases.{by-order}
+use Rattle.settings.proofs.Laws.Cases.{by-order}
 use Rattle.rule.proofs.Laws.Middle.{middle-within, middle-mono, middle-shift}
 
 -- the three cases

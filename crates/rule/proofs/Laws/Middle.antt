@@ -4,7 +4,7 @@ use Prim.Native.Nat.{ℕ, suc, _+_, _-_, _*_, _/_, _%_, _≤_, _<_, min}
 use native.Mathlib.Nat.{div-add-mod, mod-lt, mul-le-mul-left, add-div-right, add-mod-right, div-eq-of-lt, mod-eq-of-lt}
 use native.Mathlib.Omega.{arith}
 use Rattle.rule.specs.Closed.{lift, middle}
-use Rattle.rule.proofs.Laws.Cases.{by-order}
+use Rattle.settings.proofs.Laws.Cases.{by-order}
 
 -- the s that gives the most: the whole turns of 16h in g, and one more past the half of a turn
 pub record Turn (h g : ℕ) : Type 0 where

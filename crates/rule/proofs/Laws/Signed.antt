@@ -11,7 +11,7 @@ use mir.Syntax.{w64}
 use mir.Val.{SFits}
 use borrow.Author.Tests.{lt-ltb, le-ltb, le-leb, lt-leb}
 use Rattle.rule.specs.Signed.{larger, smaller}
-use Rattle.rule.proofs.Laws.Cases.{by-order}
+use Rattle.settings.proofs.Laws.Cases.{by-order}
 
 pub sub-pos : (a b : ℕ) → b ≤ a → subℕ a b ≡ pos (a - b)
 sub-pos a b i = rw (le-ltb a b i)

@@ -5,30 +5,30 @@ use Prim.Native.Nat.{ℕ, zero, suc, _+_, _-_, _≤_, _<_}
 use lib.ListN.{length, take, drop}
 use native.Mathlib.Omega.{arith}
 use borrow.Author.Tests.{eq-eqb, ne-eqb, lt-ltb, le-ltb}
-use Rattle.rule.specs.declared.settings.Settings.{Settings}
-use Rattle.rule.proofs.Laws.Cases.{by-order, by-equal}
-use Rattle.rule.proofs.Laws.Settings.{limits}
+use Rattle.settings.specs.declared.Settings.{Settings}
+use Rattle.settings.proofs.Laws.Cases.{by-order, by-equal}
+use Rattle.settings.proofs.Laws.Settings.{limits}
 use Rattle.reach.specs.Survey.{surveyed-of}
 use Rattle.reach.specs.declared.survey.Surveyed.{Surveyed}
 use Rattle.reach.specs.declared.survey.Surveyed.the-variants as surveyed
-use Rattle.text.specs.Line.{refused-line}
-use Rattle.row.specs.Call.{row-of}
-use Rattle.wall.specs.Field.{body}
-use Rattle.wall.specs.Contents.{start-size, times-in, row-size, marks-in, call-in}
-use Rattle.wall.specs.File.{settings-number, start-number, row-number, row-offset, row-shown, no-marks}
-use Rattle.wall.specs.Limits.{number-shown, offset-shown}
+use Rattle.lines.specs.Line.{refused-line}
+use Rattle.row.specs.Row.{row-of}
+use Rattle.fields.specs.Field.{body}
+use Rattle.contents.specs.Contents.{start-size, times-in, row-size, marks-in, call-in}
+use Rattle.steps.specs.Number.{settings-number, start-number, row-number, row-offset}
+use Rattle.steps.specs.Shown.{row-shown, no-marks, number-shown, offset-shown}
 use Rattle.wall.specs.Stands.{Stands}
-use Rattle.wall.specs.Step.{Stepped, place, due-size, stepped, away, after-row, step-of}
-use Rattle.wall.specs.Take.{row-left, next-row}
-use Rattle.wall.specs.declared.Place.{Place}
-use Rattle.wall.specs.declared.Wall.{Wall}
-use Rattle.wall.specs.declared.Wall.the-variants.{New, Start, Row, End, Over}
+use Rattle.steps.specs.Step.{Stepped, place, due-size, stepped, away, after-row, step-of}
+use Rattle.steps.specs.Take.{row-left, next-row}
+use Rattle.steps.specs.declared.Place.{Place}
+use Rattle.steps.specs.declared.Wall.{Wall}
+use Rattle.steps.specs.declared.Wall.the-variants.{New, Start, Row, End, Over}
 use Rattle.wall.proofs.Laws.Part.{marks-part}
 use Rattle.wall.proofs.Laws.Steps.{part-enough}
-use Rattle.wall.proofs.Laws.Taken.{settings-away, settings-goes, start-away, start-goes, row-away, row-goes, end-away, end-goes, no-number}
-use Rattle.search.specs.Telling.{first-marked, says, survey-says, step-says, telling}
+use Rattle.steps.proofs.Laws.Taken.{settings-away, settings-goes, start-away, start-goes, row-away, row-goes, end-away, end-goes, no-number}
+use Rattle.telling.specs.Telling.{first-marked, says, survey-says, step-says, telling}
 use Rattle.search.specs.File.{with-lines, rows-told, start-told, file-told}
-use Rattle.search.proofs.Laws.Telling.{row-faulty, row-clean, told-away, told-on}
+use Rattle.telling.proofs.Laws.Telling.{row-faulty, row-clean, told-away, told-on}
 
 -- what is told from a wall on; row 0 and the settings don't read the row that is lent
 abbrev pub from : (asked : List ℕ) → Wall → (m : ℕ) → (row rest : List ℕ) → List ℕ

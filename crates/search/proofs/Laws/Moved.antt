@@ -5,20 +5,20 @@ use mathlib.Core.List.{List, _++_}
 use Prim.Native.Nat.{ℕ, _+_, _-_, min}
 use lib.ListN.{length, take, drop}
 use lib.Seq.{take-at}
-use Rattle.wall.specs.Operation.{due-of, width-of}
+use Rattle.steps.specs.Fit.{due-of, width-of}
 use Rattle.wall.specs.Stands.{Stands, steps-left}
-use Rattle.wall.specs.Take.{takes, Taking}
-use Rattle.wall.specs.declared.Take.{Take}
-use Rattle.wall.specs.declared.Take.the-variants as take
-use Rattle.wall.specs.declared.Wall.{Wall}
+use Rattle.steps.specs.Take.{takes, Taking}
+use Rattle.steps.specs.declared.Take.{Take}
+use Rattle.steps.specs.declared.Take.the-variants as take
+use Rattle.steps.specs.declared.Wall.{Wall}
 use Rattle.wall.proofs.Laws.Stands.{Ahead, stands-fits}
-use Rattle.wall.proofs.Laws.Taken.{unfit-step}
+use Rattle.steps.proofs.Laws.Taken.{unfit-step}
 use Rattle.stream.specs.State.{Between}
-use Rattle.stream.specs.Window.{Within, bytes-in}
+use Rattle.window.specs.Window.{Within, bytes-in}
 use Rattle.stream.proofs.Laws.State.{part-taken, rest-left, left-within, wrote-within}
 use Rattle.search.specs.Moved.{Went-on, told, Moved}
 use Rattle.search.specs.declared.Search.{Search}
-use Rattle.search.proofs.Laws.Telling.{told-ahead}
+use Rattle.telling.proofs.Laws.Telling.{told-ahead}
 
 -- a wall that stands takes its step, with rows of its width
 pub never-unfit : {x : Wall} {part row held next : List ℕ} {answer : Take} → Stands x → length row ≡ width-of x → length held ≡ width-of x →

@@ -6,20 +6,22 @@ use Prim.Native.Nat.{ℕ, zero, suc, _+_, _≤_, _<_, max}
 use lib.ListN.{take, drop}
 use native.Mathlib.Omega.{arith}
 use borrow.Author.Tests.{eq-eqb, le-ltb}
-use Rattle.rule.specs.declared.settings.Settings.{Settings}
-use Rattle.row.specs.Call.{call, marked, row-of}
-use Rattle.row.specs.Refusal.{row-refusal}
-use Rattle.row.specs.Reach.{widest-gap}
-use Rattle.row.specs.Run.{rows, call-at}
+use Rattle.settings.specs.declared.Settings.{Settings}
+use Rattle.admission.specs.Call.{call}
+use Rattle.columns.specs.Marks.{marked}
+use Rattle.row.specs.Row.{row-of}
+use Rattle.admission.specs.Refusal.{row-refusal}
+use Rattle.runs.specs.Reach.{widest-gap}
+use Rattle.runs.specs.Run.{rows, call-at}
 use Rattle.reach.specs.Survey.{last-reach, largest-of, Row-surveyed}
 use Rattle.reach.proofs.Promises.{row-surveyed}
-use Rattle.wall.specs.Contents.{row-size, marks-in, call-in}
-use Rattle.wall.specs.File.{row-number}
+use Rattle.contents.specs.Contents.{row-size, marks-in, call-in}
+use Rattle.steps.specs.Number.{row-number}
 use Rattle.wall.specs.Limits.{calls-in, Rows-keep, over, and-then}
 use Rattle.wall.proofs.Laws.Limits.{keeps}
 use Rattle.wall.proofs.Laws.Rows.{Grown, early-of, grows, call-accepted}
-use Rattle.search.specs.Text.{largest-word, line-text, gap-text}
-use Rattle.search.specs.Telling.{first-in, first-marked}
+use Rattle.telling.specs.Text.{largest-word, line-text, gap-text}
+use Rattle.telling.specs.Telling.{first-in, first-marked}
 use Rattle.search.specs.File.{with-lines, rows-told}
 use Rattle.search.specs.Promises.{gaps-text}
 

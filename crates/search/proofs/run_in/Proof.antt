@@ -4,7 +4,7 @@ use mathlib.Core.Path.{_≡_, refl, sym, _∙_, ap}
 use Prim.Native.Nat.{_≤_}
 use native.Mathlib.Omega.{arith}
 use lib.ListN.{length}
-use Rattle.wall.specs.Operation.{due-of}
+use Rattle.steps.specs.Fit.{due-of}
 use Rattle.wall.specs.Stands.{steps-left}
 use Rattle.wall.proofs.Laws.Stands.{none-due}
 use Rattle.stream.specs.State.{Between}

@@ -1,7 +1,7 @@
 -- `step` meets its contract. Assumes nothing.
 use mathlib.Core.Path.{refl, _∙_}
-use Rattle.wall.proofs.Laws.Fit.{takes-both}
-use Rattle.wall.proofs.Laws.Taken.{Took-step, took-step}
+use Rattle.steps.proofs.Laws.Fit.{takes-both}
+use Rattle.steps.proofs.Laws.Taken.{Took-step, took-step}
 use Rattle.search.proofs.Laws.Moved.{never-unfit}
 use borrow.Author.Needs.{needs}
 use Rattle.search.proofs.step.Statement.{statement}

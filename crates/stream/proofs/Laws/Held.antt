@@ -9,14 +9,14 @@ use borrow.Author.Tests.{ltb-true, ltb-false}
 use lib.Dec.{eqb, ltb}
 use lib.ListN.{length, take, drop, length-take, length-drop}
 use lib.Seq.{take-append-le, drop-append-le}
-use Rattle.wall.specs.File.{start-number, row-number}
-use Rattle.wall.specs.Step.{place, stepped, away, start-step, after-row, row-step, end-step, step-of}
-use Rattle.wall.specs.Operation.{passes, width-of}
-use Rattle.wall.specs.declared.Place.{Place}
-use Rattle.wall.specs.declared.Wall.{Wall}
-use Rattle.wall.specs.declared.Wall.the-variants.{Start, Row, End, Over}
-use Rattle.stream.specs.Window.{Within, bytes-in, lacking}
-use Rattle.stream.specs.declared.window.Window.{Window}
+use Rattle.steps.specs.Number.{start-number, row-number}
+use Rattle.steps.specs.Step.{place, stepped, away, start-step, after-row, row-step, end-step, step-of}
+use Rattle.steps.specs.Fit.{passes, width-of}
+use Rattle.steps.specs.declared.Place.{Place}
+use Rattle.steps.specs.declared.Wall.{Wall}
+use Rattle.steps.specs.declared.Wall.the-variants.{Start, Row, End, Over}
+use Rattle.window.specs.Window.{Within, bytes-in, lacking}
+use Rattle.window.specs.declared.Window.{Window}
 
 -- a step keeps the wall's width, or the wall is over
 abbrev pub Kept : Wall → (row part : List ℕ) → Type 0

@@ -1,9 +1,9 @@
 -- `text::row_lines` meets its contract: the tiles leave room for the seams. Assumes nothing.
 use native.Mathlib.Omega.{arith}
 use borrow.Author.Needs.{needs}
-use Rattle.text.specs.Row.{row-text, row-room}
-use Rattle.text.proofs.Laws.Wrote.{wrote-then}
-use Rattle.text.proofs.Laws.Row.{tiles-length}
+use Rattle.lines.specs.Row.{row-text, row-room}
+use Rattle.lines.proofs.Laws.Wrote.{wrote-then}
+use Rattle.tile_lines.proofs.Laws.Row.{tiles-length}
 use Rattle.text.proofs.row_lines.Statement.{statement}
 use Rattle.text.proofs.row_lines.Tie as tie
 

@@ -6,20 +6,25 @@ use Prim.Native.Nat.{ℕ, zero, suc, _+_, _≤_}
 use lib.ListN.{length, take, drop}
 use lib.Seq.{drop-at, length-take-le}
 use native.Mathlib.Omega.{arith}
-use Rattle.rule.proofs.Laws.Cases.{by-equal}
-use Rattle.row.proofs.Laws.Lists.{by-test}
-use Rattle.wall.specs.File.{Shown, texts-of, text-of, start-number, wall-text}
-use Rattle.wall.specs.Step.{stepped, away, due-size, step-of, steps-shown}
-use Rattle.wall.specs.Operation.{due-of, wall-fits, fits, went-to, Stepping}
+use Rattle.settings.proofs.Laws.Cases.{by-equal}
+use Rattle.columns.proofs.Laws.Lists.{by-test}
+use Rattle.steps.specs.Shown.{Shown}
+use Rattle.show.specs.Text.{texts-of, text-of}
+use Rattle.steps.specs.Number.{start-number}
+use Rattle.wall.specs.File.{wall-text}
+use Rattle.steps.specs.Step.{stepped, away, due-size, step-of, steps-shown}
+use Rattle.steps.specs.Fit.{due-of, wall-fits}
+use Rattle.show.specs.Operation.{fits, went-to, Stepping}
 use Rattle.wall.specs.Program.{Calls, over, lent, took}
-use Rattle.wall.specs.declared.Place.{Place}
-use Rattle.wall.specs.declared.Wall.{Wall}
-use Rattle.wall.specs.declared.Wall.the-variants.{New, Start}
-use Rattle.wall.specs.declared.Went.{Went}
-use Rattle.wall.specs.declared.Step.{Step}
-use Rattle.wall.specs.declared.Step.the-variants as step
-use Rattle.wall.proofs.Laws.Fit.{fits-all, fits-due}
-use Rattle.wall.proofs.Laws.Taken.{start-goes, start-away}
+use Rattle.steps.specs.declared.Place.{Place}
+use Rattle.steps.specs.declared.Wall.{Wall}
+use Rattle.steps.specs.declared.Wall.the-variants.{New, Start}
+use Rattle.show.specs.declared.Went.{Went}
+use Rattle.show.specs.declared.Answer.{Answer}
+use Rattle.show.specs.declared.Answer.the-variants as step
+use Rattle.show.proofs.Laws.Fit.{fits-all}
+use Rattle.steps.proofs.Laws.Fit.{fits-due}
+use Rattle.steps.proofs.Laws.Taken.{start-goes, start-away}
 use Rattle.wall.proofs.Laws.Steps.{one-step, nothing-more, steps-right}
 
 texts-append : (xs ys : List Shown) → texts-of (xs ++ ys) ≡ texts-of xs ++ texts-of ys
@@ -46,7 +51,7 @@ any-row (suc n) p ts us bs =
     ))
 
 -- a call that went was one that fits, and its text is the step's
-module _ (x : Wall) (part row held : List ℕ) (at : ℕ) (answer : Step) (went : Went) (row-after out : List ℕ) (i : at ≤ length held)
+module _ (x : Wall) (part row held : List ℕ) (at : ℕ) (answer : Answer) (went : Went) (row-after out : List ℕ) (i : at ≤ length held)
     (d : Stepping x part row held at answer row-after out) (e : answer ≡ step.Went went) where
   did-fit : fits x (length row) (length held) at ≡ true
   did-fit =
@@ -78,7 +83,7 @@ record Shows (x : Wall) (row rest text : List ℕ) : Type 0 where
   pub steps : ℕ
   pub shows : (n : ℕ) → steps ≤ n → texts-of (steps-shown n x row rest) ≡ text
 
-one-more : {x : Wall} {row rest text : List ℕ} (held : List ℕ) (at : ℕ) (answer : Step) (went : Went) (row-after out : List ℕ) → at ≤ length held →
+one-more : {x : Wall} {row rest text : List ℕ} (held : List ℕ) (at : ℕ) (answer : Answer) (went : Went) (row-after out : List ℕ) → at ≤ length held →
     Stepping x (take (due-of x) rest) row held at answer row-after out → answer ≡ step.Went went → Shows (went .wall) row-after (drop (due-of x) rest) text →
     Shows x row rest (drop at (take (went .end) out) ++ text)
 one-more {x} {row} {rest} {text} held at answer went row-after out i d e k = record { steps = suc (k .steps); shows = go }

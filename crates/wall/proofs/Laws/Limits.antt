@@ -6,20 +6,22 @@ use mathlib.Core.List.{List, [], _∷_}
 use Prim.Native.Nat.{ℕ, _+_, _*_, _≤_, _<_}
 use lib.ListN.{length, getD, drop}
 use borrow.Author.Tests.{eq-eqb, le-ltb}
-use Rattle.rule.specs.Refusal.{Test, _when_, first, any-below}
-use Rattle.rule.specs.Settings.{settings-refusal}
-use Rattle.rule.specs.declared.settings.Settings.{Settings}
-use Rattle.rule.proofs.Laws.AnyBelow.{none-till}
-use Rattle.rule.proofs.Laws.Refusal.{skip, end, unhit}
-use Rattle.rule.proofs.Laws.Settings.{limits}
-use Rattle.row.specs.Call.{Call, call, marked}
-use Rattle.row.specs.Refusal.{mark-bytes, lengths-are, lengths-right, stray-mark, late-time, crowded, fast, bad-links, row-tests, row-refusal}
-use Rattle.wall.specs.Field.{field-refusal}
-use Rattle.wall.specs.Contents.{tiles-size, marks-field, marks-in, tiles-in, drifts-in, links-in, call-in}
-use Rattle.wall.specs.File.{row-number}
+use Rattle.settings.specs.Refusal.{Test, _when_, first, any-below}
+use Rattle.settings.specs.Settings.{settings-refusal}
+use Rattle.settings.specs.declared.Settings.{Settings}
+use Rattle.settings.proofs.Laws.AnyBelow.{none-till}
+use Rattle.settings.proofs.Laws.Refusal.{skip, end, unhit}
+use Rattle.settings.proofs.Laws.Settings.{limits}
+use Rattle.admission.specs.Call.{Call, call}
+use Rattle.columns.specs.Marks.{marked, mark-bytes}
+use Rattle.admission.specs.Refusal.{lengths-are, lengths-right, stray-mark, late-time, crowded, fast, row-tests, row-refusal}
+use Rattle.links.specs.Links.{bad-links}
+use Rattle.fields.specs.Field.{field-refusal}
+use Rattle.contents.specs.Contents.{tiles-size, marks-field, marks-in, tiles-in, drifts-in, links-in, call-in}
+use Rattle.steps.specs.Number.{row-number}
 use Rattle.wall.specs.Limits.{Row-keeps}
-use Rattle.wall.proofs.Laws.Field.{else-none, else-other}
-use Rattle.wall.proofs.Laws.Contents.{marks-length, drifts-length, links-length}
+use Rattle.fields.proofs.Laws.Field.{else-none, else-other}
+use Rattle.contents.proofs.Laws.Contents.{marks-length, drifts-length, links-length}
 
 -- the tests that are left: 22, 24, 25 and 26
 abbrev pub row-limits : Settings → Call → List Test

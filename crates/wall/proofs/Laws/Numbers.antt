@@ -6,18 +6,20 @@ use Prim.Native.Nat.{ℕ, zero, suc, _+_, _≤_}
 use lib.ListN.{length, drop}
 use native.Mathlib.Omega.{arith}
 use borrow.Author.Tests.{eq-eqb, ne-eqb}
-use Rattle.rule.specs.Refusal.{Test, _when_, first, any-below}
-use Rattle.rule.specs.Settings.{settings-tests, settings-refusal}
-use Rattle.rule.specs.declared.settings.Settings.{Settings}
-use Rattle.rule.proofs.Laws.Cases.{by-equal}
-use Rattle.row.specs.Call.{row-of}
-use Rattle.row.specs.Refusal.{mark-bytes, any-of}
-use Rattle.wall.specs.Field.{field-tests, field-refusal, body, or-else}
-use Rattle.wall.specs.Contents.{settings-size, start-size, times-in, late-start, tiles-size, marks-field, row-size, marks-in, call-in}
-use Rattle.wall.specs.File.{settings-number, start-number, row-number, no-marks, rows-shown}
-use Rattle.wall.specs.Limits.{number-shown}
+use Rattle.settings.specs.Refusal.{Test, _when_, first, any-below}
+use Rattle.settings.specs.Settings.{settings-tests, settings-refusal}
+use Rattle.settings.specs.declared.Settings.{Settings}
+use Rattle.settings.proofs.Laws.Cases.{by-equal}
+use Rattle.row.specs.Row.{row-of}
+use Rattle.columns.specs.Marks.{mark-bytes}
+use Rattle.columns.specs.Columns.{any-of}
+use Rattle.fields.specs.Field.{field-tests, field-refusal, body, or-else}
+use Rattle.contents.specs.Contents.{settings-size, start-size, times-in, late-start, tiles-size, marks-field, row-size, marks-in, call-in}
+use Rattle.steps.specs.Number.{settings-number, start-number, row-number}
+use Rattle.steps.specs.Shown.{no-marks, number-shown}
+use Rattle.wall.specs.File.{rows-shown}
 use Rattle.wall.specs.Promises.{in-a-file}
-use Rattle.wall.proofs.Laws.Field.{else-first, else-other}
+use Rattle.fields.proofs.Laws.Field.{else-first, else-other}
 use Rattle.wall.proofs.Laws.Limits.{Early, limited}
 use Rattle.wall.proofs.Laws.Rows.{Grown, early-of, grows, call-accepted, number-after, number-alone}
 

@@ -8,13 +8,13 @@ use lib.ListN.{length, take, drop, length-take}
 use lib.Seq.{take-take, getD-take, take-nil}
 use native.Mathlib.Omega.{arith}
 use borrow.Author.Tests.{lt-ltb, le-ltb}
-use Rattle.rule.specs.declared.settings.Settings.{Settings}
-use Rattle.rule.proofs.Laws.Cases.{by-order}
-use Rattle.row.specs.Refusal.{mark-bytes}
-use Rattle.wall.specs.Bytes.{big-endian}
-use Rattle.wall.specs.Field.{field-tests, field-refusal, body}
-use Rattle.wall.specs.Contents.{settings-size, start-size, tiles-size, marks-field, row-size, marks-in, tiles-in, call-in}
-use Rattle.wall.specs.File.{settings-number, start-number, row-number, row-offset}
+use Rattle.settings.specs.declared.Settings.{Settings}
+use Rattle.settings.proofs.Laws.Cases.{by-order}
+use Rattle.columns.specs.Marks.{mark-bytes}
+use Rattle.fields.specs.Bytes.{big-endian}
+use Rattle.fields.specs.Field.{field-tests, field-refusal, body}
+use Rattle.contents.specs.Contents.{settings-size, start-size, tiles-size, marks-field, row-size, marks-in, tiles-in, call-in}
+use Rattle.steps.specs.Number.{settings-number, start-number, row-number, row-offset}
 
 -- what is dropped of a part, and what is taken of the rest
 pub drop-take : {A : Type 0} (k n : ℕ) (l : List A) → drop k (take (k + n) l) ≡ take n (drop k l)

@@ -5,20 +5,20 @@ use mathlib.Core.List.{List}
 use Prim.Native.Nat.{ℕ}
 use lib.ListN.{length}
 use borrow.Author.Tests.{eq-eqb, lt-ltb, le-ltb}
-use Rattle.rule.specs.declared.settings.Settings.{Settings}
-use Rattle.rule.proofs.Laws.Cases.{by-equal, by-order}
-use Rattle.row.specs.Call.{row-of}
-use Rattle.row.proofs.Laws.Lists.{table-length}
-use Rattle.wall.specs.File.{settings-number, start-number, row-number}
-use Rattle.wall.specs.Step.{place, stepped, away, after-row, step-of}
-use Rattle.wall.specs.Operation.{passes, width-of, wall-fits}
+use Rattle.settings.specs.declared.Settings.{Settings}
+use Rattle.settings.proofs.Laws.Cases.{by-equal, by-order}
+use Rattle.row.specs.Row.{row-of}
+use Rattle.columns.proofs.Laws.Lists.{table-length}
+use Rattle.steps.specs.Number.{settings-number, start-number, row-number}
+use Rattle.steps.specs.Step.{place, stepped, away, after-row, step-of}
+use Rattle.steps.specs.Fit.{passes, width-of, wall-fits}
 use Rattle.wall.specs.Program.{Reached, new, lend, next}
 use Rattle.wall.specs.Stands.{Stands}
-use Rattle.wall.specs.declared.Place.{Place}
-use Rattle.wall.specs.declared.Wall.{Wall}
-use Rattle.wall.specs.declared.Wall.the-variants.{New, Start, Row, End, Over}
-use Rattle.wall.proofs.Laws.Contents.{times-length}
-use Rattle.wall.proofs.Laws.Taken.{settings-away, settings-goes, start-away, start-goes, row-away, row-goes, end-away, end-goes}
+use Rattle.steps.specs.declared.Place.{Place}
+use Rattle.steps.specs.declared.Wall.{Wall}
+use Rattle.steps.specs.declared.Wall.the-variants.{New, Start, Row, End, Over}
+use Rattle.contents.proofs.Laws.Contents.{times-length}
+use Rattle.steps.proofs.Laws.Taken.{settings-away, settings-goes, start-away, start-goes, row-away, row-goes, end-away, end-goes}
 use Rattle.wall.proofs.Laws.Stands.{step-stands, stands-fits}
 
 -- a row after row 0 has W times

@@ -5,21 +5,25 @@ use Prim.Native.Nat.{ℕ, zero, suc, _+_, _*_, _≤_, _<_}
 use lib.ListN.{length, getD, drop}
 use native.Mathlib.Omega.{arith}
 use borrow.Author.Tests.{eq-eqb, ne-eqb}
-use Rattle.rule.specs.Settings.{settings-refusal}
-use Rattle.rule.specs.declared.settings.Settings.{Settings}
-use Rattle.rule.proofs.Laws.Cases.{by-equal}
-use Rattle.rule.proofs.Laws.Settings.{limits}
-use Rattle.row.specs.Call.{Call, call, row-of}
-use Rattle.row.specs.Growth.{Pulse-grows}
-use Rattle.row.specs.Refusal.{mark-bytes, row-refusal}
-use Rattle.row.specs.Run.{taken, rows}
-use Rattle.row.proofs.Laws.Lists.{table-length, table-at}
-use Rattle.row.proofs.Promises.{pulse-grows}
-use Rattle.wall.specs.Field.{field-refusal}
-use Rattle.wall.specs.Contents.{tiles-size, marks-field, row-size, marks-in, call-in}
-use Rattle.wall.specs.File.{Shown, row-shown, row-number, rows-shown}
-use Rattle.wall.specs.Limits.{calls-in, Rows-keep, over, and-then, run-shown, number-shown}
-use Rattle.wall.proofs.Laws.Field.{else-none}
+use Rattle.settings.specs.Settings.{settings-refusal}
+use Rattle.settings.specs.declared.Settings.{Settings}
+use Rattle.settings.proofs.Laws.Cases.{by-equal}
+use Rattle.settings.proofs.Laws.Settings.{limits}
+use Rattle.admission.specs.Call.{Call, call}
+use Rattle.row.specs.Row.{row-of}
+use Rattle.runs.specs.Growth.{Pulse-grows}
+use Rattle.columns.specs.Marks.{mark-bytes}
+use Rattle.admission.specs.Refusal.{row-refusal}
+use Rattle.runs.specs.Run.{taken, rows}
+use Rattle.columns.proofs.Laws.Lists.{table-length, table-at}
+use Rattle.runs.proofs.Promises.{pulse-grows}
+use Rattle.fields.specs.Field.{field-refusal}
+use Rattle.contents.specs.Contents.{tiles-size, marks-field, row-size, marks-in, call-in}
+use Rattle.steps.specs.Shown.{Shown, row-shown, number-shown}
+use Rattle.steps.specs.Number.{row-number}
+use Rattle.wall.specs.File.{rows-shown}
+use Rattle.wall.specs.Limits.{calls-in, Rows-keep, over, and-then, run-shown}
+use Rattle.fields.proofs.Laws.Field.{else-none}
 use Rattle.wall.proofs.Laws.Limits.{Early, keeps, kept}
 
 -- row l is at most l times 2,187,500 ticks after the latest row 0 time

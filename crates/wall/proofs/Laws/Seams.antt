@@ -8,19 +8,23 @@ use lib.ListN.{length, getD, drop, replicate, length-replicate, getD-replicate, 
 use native.Mathlib.Nat.{zero-div}
 use native.Mathlib.Omega.{arith}
 use borrow.Author.Tests.{eq-eqb, ne-eqb}
-use Rattle.rule.specs.declared.settings.Settings.{Settings}
-use Rattle.rule.proofs.Laws.Cases.{by-equal, by-order}
-use Rattle.row.specs.Columns.{are-neighbours}
-use Rattle.row.specs.Call.{Call, call, marked, row-of}
-use Rattle.row.specs.Refusal.{mark-bytes, row-refusal}
-use Rattle.row.proofs.Laws.Accepted.{accepted}
-use Rattle.row.proofs.Laws.Columns.{own, beside, strangers}
-use Rattle.row.proofs.Laws.Reach.{others-correct}
+use Rattle.settings.specs.declared.Settings.{Settings}
+use Rattle.settings.proofs.Laws.Cases.{by-equal, by-order}
+use Rattle.columns.specs.Columns.{are-neighbours}
+use Rattle.admission.specs.Call.{Call, call}
+use Rattle.columns.specs.Marks.{marked, mark-bytes}
+use Rattle.row.specs.Row.{row-of}
+use Rattle.admission.specs.Refusal.{row-refusal}
+use Rattle.admission.proofs.Laws.Accepted.{accepted}
+use Rattle.columns.proofs.Laws.Columns.{own, beside, strangers}
+use Rattle.runs.proofs.Laws.Reach.{others-correct}
 use Rattle.seam.specs.Seam.{latest, seam-of, joined, number-of, side-of}
 use Rattle.seam.specs.declared.Side.the-variants.{Both}
 use Rattle.seam.proofs.Laws.{within-late, faulty-late}
-use Rattle.wall.specs.Contents.{row-size, marks-in, call-in}
-use Rattle.wall.specs.File.{Shown, lines, turned-away, row-shown, row-number, rows-shown, no-marks}
+use Rattle.contents.specs.Contents.{row-size, marks-in, call-in}
+use Rattle.steps.specs.Shown.{Shown, lines, turned-away, row-shown, no-marks}
+use Rattle.steps.specs.Number.{row-number}
+use Rattle.wall.specs.File.{rows-shown}
 use Rattle.wall.specs.Promises.{Seams-hold, Every, no-more, also}
 use Rattle.wall.proofs.Laws.Rows.{Grown, grows, call-accepted}
 

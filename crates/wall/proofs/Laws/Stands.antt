@@ -7,20 +7,20 @@ use native.Mathlib.Omega.{arith}
 use borrow.Author.Tests.{eq-eqb, eqb-true, ltb-true, le-leb}
 use lib.Dec.{eqb, ltb}
 use lib.ListN.{length}
-use Rattle.rule.specs.Settings.{settings-refusal}
-use Rattle.rule.specs.declared.settings.Settings.{Settings}
-use Rattle.rule.proofs.Laws.Settings.{limits}
-use Rattle.wall.specs.Field.{field-refusal, body}
-use Rattle.wall.specs.Contents.{settings-size, settings-in, row-size}
-use Rattle.wall.specs.File.{settings-number, start-number, row-number}
-use Rattle.wall.specs.Step.{place, due-size, stepped, away, settings-step, start-step, after-row, row-step, end-step, step-of}
-use Rattle.wall.specs.Operation.{passes, due-of, width-of, place-fits, wall-fits}
-use Rattle.wall.specs.declared.Place.{Place}
-use Rattle.wall.specs.declared.Wall.{Wall}
-use Rattle.wall.specs.declared.Wall.the-variants.{New, Start, Row, End, Over}
-use Rattle.wall.proofs.Laws.Contents.{row-small}
-use Rattle.wall.proofs.Laws.Fit.{fits-due}
-use Rattle.wall.proofs.Laws.Field.{else-none}
+use Rattle.settings.specs.Settings.{settings-refusal}
+use Rattle.settings.specs.declared.Settings.{Settings}
+use Rattle.settings.proofs.Laws.Settings.{limits}
+use Rattle.fields.specs.Field.{field-refusal, body}
+use Rattle.contents.specs.Contents.{settings-size, settings-in, row-size}
+use Rattle.steps.specs.Number.{settings-number, start-number, row-number}
+use Rattle.steps.specs.Step.{place, due-size, stepped, away, settings-step, start-step, after-row, row-step, end-step, step-of}
+use Rattle.steps.specs.Fit.{passes, due-of, width-of, place-fits, wall-fits}
+use Rattle.steps.specs.declared.Place.{Place}
+use Rattle.steps.specs.declared.Wall.{Wall}
+use Rattle.steps.specs.declared.Wall.the-variants.{New, Start, Row, End, Over}
+use Rattle.contents.proofs.Laws.Contents.{row-small}
+use Rattle.steps.proofs.Laws.Fit.{fits-due}
+use Rattle.fields.proofs.Laws.Field.{else-none}
 use Rattle.wall.specs.Stands.{Stood, Stands, steps-left}
 
 -- a step to x: it stands, and fewer than n steps are left

@@ -7,17 +7,18 @@ use lib.Dec.{eqb}
 use lib.ListN.{length, take, drop}
 use native.Mathlib.Omega.{arith}
 use borrow.Author.Tests.{lt-ltb, le-ltb, eqb-true, ne-eqb}
-use Rattle.rule.specs.Settings.{settings-refusal}
-use Rattle.rule.specs.declared.settings.Settings.{Settings}
-use Rattle.rule.proofs.Laws.Settings.{limits}
-use Rattle.row.specs.Call.{row-of}
-use Rattle.wall.specs.Field.{field-refusal, body}
-use Rattle.wall.specs.Contents.{settings-size, settings-in, start-size, times-in, row-size, call-in}
-use Rattle.wall.specs.File.{settings-number, start-number, row-number, rows-shown, start-shown, shown}
-use Rattle.wall.specs.Step.{place, due-size, stepped, away, settings-step, start-step, after-row, row-step, end-step, step-of, steps-shown}
-use Rattle.wall.specs.declared.Wall.{Wall}
-use Rattle.wall.specs.declared.Wall.the-variants.{New, Start, Row, End, Over}
-use Rattle.wall.proofs.Laws.Field.{else-none}
+use Rattle.settings.specs.Settings.{settings-refusal}
+use Rattle.settings.specs.declared.Settings.{Settings}
+use Rattle.settings.proofs.Laws.Settings.{limits}
+use Rattle.row.specs.Row.{row-of}
+use Rattle.fields.specs.Field.{field-refusal, body}
+use Rattle.contents.specs.Contents.{settings-size, settings-in, start-size, times-in, row-size, call-in}
+use Rattle.steps.specs.Number.{settings-number, start-number, row-number}
+use Rattle.wall.specs.File.{rows-shown, start-shown, shown}
+use Rattle.steps.specs.Step.{place, due-size, stepped, away, settings-step, start-step, after-row, row-step, end-step, step-of, steps-shown}
+use Rattle.steps.specs.declared.Wall.{Wall}
+use Rattle.steps.specs.declared.Wall.the-variants.{New, Start, Row, End, Over}
+use Rattle.fields.proofs.Laws.Field.{else-none}
 use Rattle.wall.proofs.Laws.Part.{settings-part, start-part, row-part, offset-part, marks-part, call-part, body-part}
 
 -- a step reads nothing after the part that is due

@@ -1,7 +1,7 @@
 -- `words::place_in` meets its contract. Assumes nothing.
 use mathlib.Core.Path.{refl}
-use Rattle.rule.specs.Settings.{settings}
-use Rattle.wall.specs.Step.{place}
+use Rattle.settings.specs.Settings.{settings}
+use Rattle.steps.specs.Step.{place}
 use Rattle.polzaintu.specs.Words.{settings-from, place-in}
 use borrow.Author.Needs.{needs}
 use Rattle.polzaintu.proofs.words.place_in.Statement.{statement}

@@ -1,6 +1,6 @@
 -- `words::settings_in` meets its contract. Assumes nothing.
 use mathlib.Core.Path.{refl}
-use Rattle.rule.specs.Settings.{settings}
+use Rattle.settings.specs.Settings.{settings}
 use Rattle.polzaintu.specs.Words.{settings-from}
 use borrow.Author.Needs.{needs}
 use Rattle.polzaintu.proofs.words.settings_in.Statement.{statement}

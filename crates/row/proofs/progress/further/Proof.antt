@@ -6,13 +6,13 @@ use lib.ListN.{length, set}
 use native.Mathlib.Omega.{arith}
 use borrow.Author.Needs.{needs}
 use borrow.Author.Tests.{not-false}
-use Rattle.rule.proofs.Laws.Settings.{Limits, limits}
-use Rattle.row.specs.Call.{Call, call, pulse}
-use Rattle.row.specs.Refusal.{mark-bytes}
-use Rattle.row.specs.Plain.{Plain}
+use Rattle.settings.proofs.Laws.Settings.{Limits, limits}
+use Rattle.admission.specs.Call.{Call, call}
+use Rattle.pulse.specs.Pulse.{pulse}
+use Rattle.columns.specs.Marks.{mark-bytes, Plain}
 use Rattle.row.specs.Progress.{Filled}
-use Rattle.row.proofs.Laws.Accepted.{Accepted, accepted}
-use Rattle.row.proofs.Laws.Plain.{plain-tile, plain-pulse}
+use Rattle.admission.proofs.Laws.Accepted.{Accepted, accepted}
+use Rattle.pulse.proofs.Laws.Plain.{plain-tile, plain-pulse}
 use Rattle.row.proofs.Laws.Table.{one-more}
 use Rattle.row.proofs.progress.further.Statement.{statement}
 use Rattle.row.proofs.progress.further.Tie as tie

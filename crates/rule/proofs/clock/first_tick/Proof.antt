@@ -3,7 +3,7 @@ use mathlib.Core.Path.{_∙_, ap}
 use Prim.Native.Nat.{ℕ, _+_}
 use native.Mathlib.Omega.{arith}
 use borrow.Author.Needs.{needs}
-use Rattle.rule.specs.Rounding.{up}
+use Rattle.settings.specs.Rounding.{up}
 use Rattle.rule.specs.Clock.{first-tick}
 use Rattle.rule.proofs.clock.first_tick.Statement.{statement}
 use Rattle.rule.proofs.clock.first_tick.Tie as tie

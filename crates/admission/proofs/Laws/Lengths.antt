@@ -1,0 +1,30 @@
+-- What the lengths of a row call are where they are right. Assumes nothing.
+use mathlib.Core.Path.{_≡_}
+use mathlib.Core.Bool.{true, _&&_, and-eq-true-iff}
+use Prim.Native.Nat.{ℕ, _+_, _*_}
+use lib.Dec.{eqb}
+use borrow.Author.Tests.{eqb-true}
+use Rattle.columns.specs.Marks.{mark-bytes}
+use Rattle.admission.specs.Refusal.{lengths-are}
+
+pub record Sized (w b m d l r : ℕ) : Type 0 where
+  pub before : b ≡ w
+  pub marks : m ≡ mark-bytes w
+  pub drifts : d ≡ w
+  pub links : l ≡ 3 * w + 2
+  pub room : r ≡ w
+
+pub sized : (w before marks drifts links room : ℕ) → lengths-are w before marks drifts links room ≡ true → Sized w before marks drifts links room
+unfolding lengths-are
+sized w before marks drifts links room e =
+    let e1 = and-eq-true-iff (eqb before w) (eqb marks (mark-bytes w) && (eqb drifts w && (eqb links (3 * w + 2) && eqb room w))) .0 e in
+    let e2 = and-eq-true-iff (eqb marks (mark-bytes w)) (eqb drifts w && (eqb links (3 * w + 2) && eqb room w)) .0 (e1 .1) in
+    let e3 = and-eq-true-iff (eqb drifts w) (eqb links (3 * w + 2) && eqb room w) .0 (e2 .1) in
+    let e4 = and-eq-true-iff (eqb links (3 * w + 2)) (eqb room w) .0 (e3 .1) in
+    record {
+      before = eqb-true before w (e1 .0);
+      marks = eqb-true marks (mark-bytes w) (e2 .0);
+      drifts = eqb-true drifts w (e3 .0);
+      links = eqb-true links (3 * w + 2) (e4 .0);
+      room = eqb-true room w (e4 .1);
+    }

@@ -1,0 +1,66 @@
+-- `row::refusal::lengths` meets its contract: its tests are the definition's. Assumes nothing.
+use Prim.Native.Nat.{_+_, _*_, _/_}
+use borrow.Author.Tests.{eq-eqb, ne-eqb}
+use Rattle.columns.specs.Marks.{mark-bytes}
+use Rattle.admission.specs.Refusal.{lengths-are}
+use borrow.Author.Needs.{needs}
+use Rattle.admission.proofs.lengths.Statement.{statement}
+use Rattle.admission.proofs.lengths.Tie as tie
+
+returns : tie.Need-returns
+unfolding lengths-are mark-bytes
+returns c = let a = c .before .args in rw (ne-eqb (a .before) (a .width) (c .if1 .taken))
+
+add-if2 : tie.Need-add-if2
+add-if2 c = search needs
+
+returns-2 : tie.Need-returns-2
+unfolding lengths-are mark-bytes
+returns-2 c =
+    let a = c .before .before .args in
+    rw (eq-eqb (a .before) (a .width) (c .before .if1 .left), ne-eqb (a .marks) ((a .width + 7) / 8) (c .if2 .taken))
+
+returns-3 : tie.Need-returns-3
+unfolding lengths-are mark-bytes
+returns-3 c =
+    let e = c .before in
+    let a = e .before .before .args in
+    rw (
+      eq-eqb (a .before) (a .width) (e .before .if1 .left),
+      eq-eqb (a .marks) ((a .width + 7) / 8) (e .if2 .left),
+      ne-eqb (a .drifts) (a .width) (c .if3 .taken),
+    )
+
+mul-if4 : tie.Need-mul-if4
+mul-if4 c = search needs
+
+add-if4 : tie.Need-add-if4
+add-if4 c = search needs
+
+returns-4 : tie.Need-returns-4
+unfolding lengths-are mark-bytes
+returns-4 c =
+    let e = c .before .before in
+    let a = e .before .before .args in
+    rw (
+      eq-eqb (a .before) (a .width) (e .before .if1 .left),
+      eq-eqb (a .marks) ((a .width + 7) / 8) (e .if2 .left),
+      eq-eqb (a .drifts) (a .width) (c .before .if3 .left),
+      ne-eqb (a .links) (3 * a .width + 2) (c .if4 .taken),
+    )
+
+returns-5 : tie.Need-returns-5
+unfolding lengths-are mark-bytes
+returns-5 c =
+    let e = c .before .before in
+    let a = e .before .before .args in
+    rw (
+      eq-eqb (a .before) (a .width) (e .before .if1 .left),
+      eq-eqb (a .marks) ((a .width + 7) / 8) (e .if2 .left),
+      eq-eqb (a .drifts) (a .width) (c .before .if3 .left),
+      eq-eqb (a .links) (3 * a .width + 2) (c .if4 .left),
+    )
+
+pub lengths-spec : {M : Type 1} → statement M
+lengths-spec =
+    tie.close (tie.spec returns add-if2 returns-2 returns-3 mul-if4 add-if4 returns-4 returns-5)

@@ -1,0 +1,51 @@
+-- When a row call is turned away: the numbers 21 to 26. Assumes nothing.
+use mathlib.Core.Bool.{Bool, not, _&&_}
+use mathlib.Core.List.{List, [], _∷_}
+use Prim.Native.Nat.{ℕ, _+_, _-_, _*_}
+use lib.Dec.{ltb, leb, eqb}
+use lib.ListN.{length, getD}
+use Rattle.settings.specs.Refusal.{Test, _when_, first, any-below}
+use Rattle.settings.specs.Settings.{settings-refusal}
+use Rattle.settings.specs.declared.Settings.{Settings}
+use Rattle.columns.specs.Columns.{predecessors}
+use Rattle.admission.specs.Call.{Call}
+use Rattle.links.specs.Links.{latest-time, bad-links}
+use Rattle.columns.specs.Marks.{marked, mark-bytes, faulty-among}
+
+-- 21: W times before, W / 8 rounded up bytes of marks, W drifts, 3W + 2 links, W times to be written
+unfoldable pub lengths-are : (w before marks drifts links room : ℕ) → Bool
+lengths-are w before marks drifts links room =
+    eqb before w && (eqb marks (mark-bytes w) && (eqb drifts w && (eqb links (3 * w + 2) && eqb room w)))
+
+unfoldable pub lengths-right : (w : ℕ) → (before : List ℕ) → Call → Bool
+lengths-right w ts x = lengths-are w (length ts) (length (x .marks)) (length (x .drifts)) (length (x .links)) (x .room)
+
+-- 22: "a mark bit past the last column"
+unfoldable pub stray-mark : (w : ℕ) → (marks : List ℕ) → (k : ℕ) → Bool
+stray-mark w ms k = leb w k && marked ms k
+
+-- 23: "a correct tile's time over 2^40 - 1"
+unfoldable pub late-time : (before marks : List ℕ) → (c : ℕ) → Bool
+late-time ts ms c = not (marked ms c) && ltb latest-time (getD ts c 0)
+
+unfoldable pub crowded : (w : ℕ) → (marks : List ℕ) → (c : ℕ) → Bool
+crowded w ms c = ltb 1 (faulty-among ms (predecessors w c))
+
+-- 25: "a drift over r"
+unfoldable pub fast : (limit : ℕ) → (drifts : List ℕ) → (c : ℕ) → Bool
+fast r ds c = ltb r (getD ds c 0)
+
+-- "Numbers 1 to 9, then 21 a wrong length; ..": the lowest number that applies anywhere in the row
+unfoldable pub row-tests : Settings → (before : List ℕ) → Call → List Test
+row-tests s ts x =
+    settings-refusal s when not (eqb (settings-refusal s) 0)
+    ∷ 21 when not (lengths-right (s .width) ts x)
+    ∷ 22 when any-below (8 * mark-bytes (s .width)) (stray-mark (s .width) (x .marks))
+    ∷ 23 when any-below (s .width) (late-time ts (x .marks))
+    ∷ 24 when any-below (s .width) (crowded (s .width) (x .marks))
+    ∷ 25 when any-below (s .width) (fast (s .drift) (x .drifts))
+    ∷ 26 when any-below (s .width) (bad-links s (x .marks) (x .links))
+    ∷ []
+
+unfoldable pub row-refusal : Settings → (before : List ℕ) → Call → ℕ
+row-refusal s ts x = first (row-tests s ts x)

@@ -1,0 +1,67 @@
+-- Columns of a wall: which are neighbours, which tiles a tile hears, and how many hops lie between two. Assumes nothing.
+use mathlib.Core.Bool.{Bool, true, _&&_, _||_, cond, false}
+use mathlib.Core.List.{List, [], _∷_}
+use mathlib.Core.Path.{_≡_}
+use Prim.Native.Nat.{ℕ, zero, suc, _+_, _≤_, _<_, _-_}
+use lib.Dec.{eqb}
+use lib.ListN.{length, getD}
+
+-- "Two tiles of a row are neighbours where their columns differ by 1, or are 0 and 2, or W - 3 and W - 1."
+unfoldable pub are-neighbours : (w a b : ℕ) → Bool
+are-neighbours w a b =
+    (eqb (suc a) b || eqb (suc b) a)
+    || (((eqb a 0 && eqb b 2) || (eqb a 2 && eqb b 0)) || ((eqb (a + 3) w && eqb (suc b) w) || (eqb (suc a) w && eqb (b + 3) w)))
+
+-- the columns from c on, n of them, for which f holds, rising
+unfoldable pub columns-from : (n c : ℕ) → (ℕ → Bool) → List ℕ
+columns-from zero c f = []
+columns-from (suc n) c f = cond (f c) (c ∷ columns-from n (suc c) f) (columns-from n (suc c) f)
+
+unfoldable pub neighbours : (w c : ℕ) → List ℕ
+neighbours w c = columns-from w 0 (λ k. are-neighbours w c k)
+
+-- "A tile in row 1 or later has predecessors in the row before: its own column and the neighbours of that column."
+unfoldable pub is-predecessor : (w c k : ℕ) → Bool
+is-predecessor w c k = eqb k c || are-neighbours w c k
+
+unfoldable pub predecessors : (w c : ℕ) → List ℕ
+predecessors w c = columns-from w 0 (λ k. is-predecessor w c k)
+
+-- the links of the tiles before column c
+unfoldable pub links-before : (w c : ℕ) → ℕ
+links-before w zero = 0
+links-before w (suc c) = links-before w c + length (predecessors w c)
+
+-- the place of k in a list
+unfoldable pub place-in : (k : ℕ) → List ℕ → ℕ
+place-in k [] = 0
+place-in k (x ∷ xs) = cond (eqb k x) 0 (suc (place-in k xs))
+
+-- "by tile and then by sender column": where the link from sender k to tile c stands
+unfoldable pub link-place : (w c k : ℕ) → ℕ
+link-place w c k = links-before w c + place-in k (predecessors w c)
+
+-- "A hop is a step to a neighbour." A way of n hops from a column to another
+pub data Way (w : ℕ) : (n a b : ℕ) → Type 0 where
+  stay : {a : ℕ} → Way w 0 a a
+  hop : {n a b c : ℕ} → c < w → are-neighbours w c b ≡ true → Way w n a b → Way w (suc n) a c
+
+-- at most n hops apart: "Two columns are as many hops apart as the shortest way between them has."
+pub record Within (w n a b : ℕ) : Type 0 where
+  pub hops : ℕ
+  pub few : hops ≤ n
+  pub way : Way w hops a b
+
+-- "the link values by tile and then by sender column"
+unfoldable pub link : (w : ℕ) → (links : List ℕ) → (tile sender : ℕ) → ℕ
+link w ls c k = getD ls (link-place w c k) 0
+
+-- f 0 to f (n - 1)
+unfoldable pub table-from : (n c : ℕ) → (ℕ → ℕ) → List ℕ
+table-from zero c f = []
+table-from (suc n) c f = f c ∷ table-from n (suc c) f
+
+-- f holds of some number in a list
+unfoldable pub any-of : List ℕ → (ℕ → Bool) → Bool
+any-of [] f = false
+any-of (k ∷ ks) f = f k || any-of ks f

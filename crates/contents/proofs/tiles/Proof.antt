@@ -1,0 +1,161 @@
+-- `contents::tiles` meets its contract. The loop's invariant: the drifts and links of the tiles passed are written. Assumes nothing.
+use mathlib.Core.Path.{_≡_, refl, sym, _∙_, ap}
+use mathlib.Core.List.{List, _++_}
+use Prim.Native.Nat.{ℕ, _+_, _-_, _*_, _≤_}
+use lib.ListN.{length, take}
+use lib.Seq.{take-all}
+use native.Mathlib.Numerals.{add-one}
+use native.Mathlib.Omega.{arith}
+use Rattle.columns.specs.Columns.{predecessors, links-before, table-from}
+use Rattle.fields.specs.Bytes.{big-endian}
+use Rattle.columns.specs.Window.{Links-counted}
+use Rattle.columns.proofs.Promises.{links-counted}
+use Rattle.contents.specs.Contents.{tile-place, drifts-in, tile-links, links-below, links-in}
+use Rattle.contents.proofs.Laws.Contents.{links-end, tile-end, three-at-least, with-fourth}
+use Rattle.contents.proofs.Laws.Filling.{Filled, none-filled, one-more, all-filled}
+use Rattle.contents.proofs.tiles.Statement.{statement}
+use Rattle.contents.proofs.tiles.Tie as tie
+
+-- what the tiles below column c have left
+record Taken (w : ℕ) (body drifts₀ links₀ drifts links : List ℕ) (c n : ℕ) : Type 0 where
+  pub drift : Filled (λ k. big-endian 2 body (tile-place w k)) drifts₀ drifts c
+  pub place : n ≡ links-before w c
+  pub same : length links ≡ length links₀
+  pub link : take n links ≡ links-below w body c
+
+counted : (w : ℕ) → 6 ≤ w → links-before w w ≡ 3 * w + 2
+unfolding Links-counted
+counted w wide = links-counted w wide
+
+abbrev Inv-loop : tie.InvT-loop
+Inv-loop width body drifts₀ links₀ c₀ n₀ drifts links c n = Taken width body drifts₀ links₀ drifts links c n
+
+abbrev μ-loop : tie.MeasureT-loop
+μ-loop width body drifts₀ links₀ c₀ n₀ drifts links c n = width - c
+
+loop-holds : tie.Need-loop-holds Inv-loop μ-loop
+unfolding links-before links-below
+loop-holds c = record { drift = none-filled _ _; place = refl; same = refl; link = refl }
+
+-- the sizes at the loop's head
+abbrev start : tie.At-loop Inv-loop μ-loop → tie.Start Inv-loop μ-loop
+start c = c .before .before .before .before
+
+in-wall : (c : tie.In-loop Inv-loop μ-loop) →
+    let s = start (c .before) in
+    let l = c .before .loop in
+    (l .n + length (predecessors (s .args .width) (l .c)) ≤ 3 * s .args .width + 2)
+    × (2 * l .c + 8 * l .n + 2 + 8 * length (predecessors (s .args .width) (l .c)) ≤ 26 * s .args .width + 16)
+    × (3 ≤ length (predecessors (s .args .width) (l .c)))
+unfolding tile-place
+in-wall c =
+    let s = start (c .before) in
+    let l = c .before .loop in
+    let wide = s .pre .0 .0 in
+    let i = c .loop-test .taken in (
+      omega (arith, l .inv .place, links-end (s .args .width) wide (l .c) i),
+      omega (arith, l .inv .place, tile-end (s .args .width) wide (l .c) i),
+      three-at-least (s .args .width) wide (l .c) i,
+    )
+
+mul-at : tie.Need-mul-at Inv-loop μ-loop
+mul-at c = omega (arith, in-wall c)
+
+mul-at-2 : tie.Need-mul-at-2 Inv-loop μ-loop
+mul-at-2 c = omega (arith, in-wall c)
+
+add-at : tie.Need-add-at Inv-loop μ-loop
+add-at c = omega (arith, in-wall c)
+
+two-requires : tie.Need-two-requires Inv-loop μ-loop
+two-requires c κs = omega (arith, in-wall c)
+
+cast-drifts : tie.Need-cast-drifts Inv-loop μ-loop
+cast-drifts c = omega (arith, c .two .ensures .1)
+
+mul-drifts : tie.Need-mul-drifts Inv-loop μ-loop
+mul-drifts c = omega (arith, in-wall (c .before))
+
+slice-write-drifts : tie.Need-slice-write-drifts Inv-loop μ-loop
+slice-write-drifts c = omega (arith, c .before .before .loop .inv .drift .same, c .before .loop-test .taken)
+
+add-tile : tie.Need-add-tile Inv-loop μ-loop
+add-tile c = omega (arith, in-wall (c .before))
+
+tile-requires : tie.Need-tile-requires Inv-loop μ-loop
+unfolding tile-place
+tile-requires c κs =
+    let w = c .before .before in
+    let l = w .before in
+    let s = start l in
+    let i = in-wall w in (
+      (s .pre .0 .0, s .pre .0 .1, w .loop-test .taken, l .loop .inv .place, ap (λ (n : ℕ). 2 * l .loop .c + 8 * n + 2) (l .loop .inv .place)),
+      (
+        (omega (arith, i, l .loop .inv .same), omega (arith, l .loop .inv .same), omega (arith, i), omega arith),
+        λ f. let four = with-fourth (s .args .width) (s .pre .0 .0) (l .loop .c) (w .loop-test .taken) f in
+            (omega (arith, i, four, l .loop .inv .same), omega (arith, i, four)),
+      ),
+    )
+
+add-c : tie.Need-add-c Inv-loop μ-loop
+add-c c = omega (arith, in-wall (c .before .before .before .before .before))
+
+loop-less : tie.Need-loop-less Inv-loop μ-loop
+loop-less c = omega (arith, c .before .before .before .before .before .loop-test .taken)
+
+loop-again : tie.Need-loop-again Inv-loop μ-loop
+unfolding links-before links-below tile-place
+loop-again c =
+    let t = c .before .before in
+    let two = t .before .before in
+    let w = two .before in
+    let l = w .before in
+    let e = l .loop .inv in
+    let place = t .tile .ensures .1 .0 in
+    record {
+      drift = one-more (e .drift) (omega (arith, w .loop-test .taken)) (two .two .ensures .0 ∙ ap (λ (n : ℕ). big-endian 2 (start l .args .body .now) (2 * l .loop .c + 8 * n)) (e .place));
+      place = rw add-one (place ∙ ap (λ (n : ℕ). n + length (predecessors (start l .args .width) (l .loop .c))) (e .place));
+      same = t .tile .ensures .1 .1 ∙ e .same;
+      link = rw add-one (t .tile .ensures .0 ∙ ap (λ (x : List ℕ). x ++ tile-links (start l .args .width) (start l .args .body .now) (l .loop .c)) (e .link));
+    }
+
+same-length : tie.Need-same-length Inv-loop μ-loop
+same-length c = c .before .loop .inv .drift .same
+
+same-length-2 : tie.Need-same-length-2 Inv-loop μ-loop
+same-length-2 c = c .before .loop .inv .same
+
+returns : tie.Need-returns Inv-loop μ-loop
+unfolding drifts-in links-in
+returns c =
+    let l = c .before in
+    let s = start l in
+    let e = l .loop .inv in
+    let end : l .loop .c ≡ s .args .width = omega (arith, c .loop-test .left, e .drift .within) in (
+      all-filled (e .drift) (end ∙ sym (s .pre .1 .0)) ∙ ap (λ (n : ℕ). table-from n 0 (λ k. big-endian 2 (s .args .body .now) (tile-place (s .args .width) k))) (s .pre .1 .0),
+      sym (take-all (l .loop .n) (l .loop .links) (omega (arith, e .same, e .place, ap (links-before (s .args .width)) end, counted (s .args .width) (s .pre .0 .0))))
+          ∙ e .link ∙ ap (links-below (s .args .width) (s .args .body .now)) end,
+    )
+
+pub tiles-spec : {M : Type 1} → statement M
+tiles-spec =
+    tie.close
+    (tie.spec
+    Inv-loop
+    μ-loop
+    loop-holds
+    mul-at
+    mul-at-2
+    add-at
+    two-requires
+    cast-drifts
+    mul-drifts
+    slice-write-drifts
+    add-tile
+    tile-requires
+    add-c
+    loop-less
+    loop-again
+    same-length
+    same-length-2
+    returns)

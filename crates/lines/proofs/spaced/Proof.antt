@@ -1,0 +1,20 @@
+-- `text::number::spaced` meets its contract. Assumes nothing.
+use borrow.Author.Needs.{needs}
+use Rattle.lines.proofs.Laws.Wrote.{wrote-then}
+use Rattle.lines.proofs.spaced.Statement.{statement}
+use Rattle.lines.proofs.spaced.Tie as tie
+
+byte-requires : tie.Need-byte-requires
+byte-requires c κs = search needs
+
+decimal-requires : tie.Need-decimal-requires
+decimal-requires c κs = search needs
+
+same-length : tie.Need-same-length
+same-length c = search needs
+
+returns : tie.Need-returns
+returns c = wrote-then (c .before .before .before .before .before .before .byte .ensures) (c .before .before .decimal .ensures)
+
+pub spaced-spec : {M : Type 1} → statement M
+spaced-spec = tie.close (tie.spec byte-requires decimal-requires same-length returns)

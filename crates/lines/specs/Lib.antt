@@ -1,0 +1,5 @@
+pub mod Number
+pub mod Line
+pub mod Row
+pub mod Wrote
+pub mod Promises

@@ -1,0 +1,29 @@
+-- When a link value is out of range: number 26. Assumes nothing.
+use Prim.Native.Nat.{ℕ, _-_}
+use mathlib.Core.Bool.{Bool, cond, not, _&&_, false}
+use mathlib.Core.List.{List}
+use lib.Dec.{ltb, eqb}
+use Rattle.settings.specs.Refusal.{outside}
+use Rattle.rule.specs.Stamp.{silence}
+use Rattle.settings.specs.declared.Settings.{Settings}
+use Rattle.columns.specs.Columns.{predecessors, link, any-of}
+use Rattle.columns.specs.Marks.{marked}
+use mathlib.Core.Path.{_≡_}
+
+-- 2^40 - 1: the latest time of a correct tile, and the latest faulty arrival
+abbrev pub latest-time : ℕ
+latest-time = 1099511627775
+
+-- 26: "a delay outside d - u to d, or a faulty arrival over 2^40 - 1 that isn't silent"
+unfoldable pub bad-value : Settings → (faulty : Bool) → (value : ℕ) → Bool
+bad-value s f v = cond f (not (eqb v silence) && ltb latest-time v) (outside (s .delay - s .uncertainty) (s .delay) v)
+
+unfoldable pub bad-link : Settings → (marks links : List ℕ) → (tile sender : ℕ) → Bool
+bad-link s ms ls c k = bad-value s (marked ms k) (link (s .width) ls c k)
+
+unfoldable pub bad-links : Settings → (marks links : List ℕ) → (tile : ℕ) → Bool
+bad-links s ms ls c = any-of (predecessors (s .width) c) (bad-link s ms ls c)
+
+-- no link value of the tile is bad, whoever is faulty
+unfoldable pub Never-bad : Settings → (links : List ℕ) → (c : ℕ) → Type 0
+Never-bad s ls c = (ms : List ℕ) → bad-links s ms ls c ≡ false

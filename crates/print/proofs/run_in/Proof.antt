@@ -1,0 +1,116 @@
+-- `run_in` is safe and ends. The loop's invariant: the wall is one that steps leave, and the window and the text lie in their buffers.
+-- The measure is how many steps are left. Assumes nothing.
+use mathlib.Core.Path.{_≡_, refl, sym, _∙_}
+use native.Mathlib.Omega.{arith}
+use borrow.Author.Needs.{needs}
+use lib.ListN.{length}
+use Rattle.steps.specs.Fit.{due-of}
+use Rattle.wall.specs.Stands.{steps-left}
+use Rattle.stream.specs.State.{Between}
+use Rattle.wall.proofs.Laws.Stands.{none-due}
+use Rattle.stream.proofs.Laws.State.{starts-between, ready-on, ready-between}
+use Rattle.print.proofs.Laws.{turn-ahead, turn-between}
+use Rattle.print.proofs.run_in.Statement.{statement}
+use Rattle.print.proofs.run_in.Tie as tie
+
+abbrev Inv-loop : tie.InvT-loop
+Inv-loop from to tables input₀ row₀ output₀ state₀ input row output state =
+    (length input ≡ length input₀) × (length row ≡ length row₀) × (length output ≡ length output₀) × Between state (length input) (length output)
+
+abbrev μ-loop : tie.MeasureT-loop
+μ-loop from to tables input₀ row₀ output₀ state₀ input row output state = steps-left (state .wall)
+
+start-requires : tie.Need-start-requires Inv-loop μ-loop
+start-requires c κs = search needs
+
+loop-holds : tie.Need-loop-holds Inv-loop μ-loop
+loop-holds c = (refl, refl, refl, starts-between _ _ _ (c .start .ensures))
+
+due-requires : tie.Need-due-requires Inv-loop μ-loop
+due-requires c κs = search needs
+
+ready-requires : tie.Need-ready-requires Inv-loop μ-loop
+ready-requires c κs = let at = c .before .before .before .before .loop in (at .inv .3, omega arith, omega arith)
+
+enum-known-next : tie.Need-enum-known-next Inv-loop μ-loop
+enum-known-next c = search needs
+
+advance-requires : tie.Need-advance-requires Inv-loop μ-loop
+advance-requires c κs =
+    let at = c .before .before .before .before .before .before .before .before .before .before .before .before .before .loop in
+    let made = ready-on _ _ _ _ _ _ (c .before .before .before .before .next .given .1) (c .before .before .before .before .before .before .before .before .ready .ensures) in
+    (search needs, ready-between (at .state) (at .input) (length (at .output)) _ _ (at .inv .3) made, omega arith, made .room)
+
+loop-less : tie.Need-loop-less Inv-loop μ-loop
+loop-less c =
+    let at = c .before .before .before .before .before .before .before .before .before .before .before .before .before .before .before .before .before .before .loop in
+    let some : due-of (at .state .wall) ≡ 0 → ⊥ = λ e. c .before .before .before .before .before .before .before .before .before .before .before .before .before .before .before .before .if1 .taken (c .before .before .before .before .before .before .before .before .before .before .before .before .before .before .before .before .before .due .ensures .0 ∙ e) in
+    let made = ready-on _ _ _ _ _ _ (c .before .before .before .before .before .before .before .before .before .next .given .1) (c .before .before .before .before .before .before .before .before .before .before .before .before .before .ready .ensures) in
+    let went = c .before .before .before .before .advance .ensures in
+    turn-ahead (at .state) (at .input) (length (at .output)) _ _ (at .row) (at .output) _ _ _ (at .inv .3) some made refl went .less
+
+loop-again : tie.Need-loop-again Inv-loop μ-loop
+loop-again c =
+    let at = c .before .before .before .before .before .before .before .before .before .before .before .before .before .before .before .before .before .before .loop in
+    let some : due-of (at .state .wall) ≡ 0 → ⊥ = λ e. c .before .before .before .before .before .before .before .before .before .before .before .before .before .before .before .before .if1 .taken (c .before .before .before .before .before .before .before .before .before .before .before .before .before .before .before .before .before .due .ensures .0 ∙ e) in
+    let made = ready-on _ _ _ _ _ _ (c .before .before .before .before .before .before .before .before .before .next .given .1) (c .before .before .before .before .before .before .before .before .before .before .before .before .before .ready .ensures) in
+    let went = c .before .before .before .before .advance .ensures in
+    (omega arith, omega arith, omega arith, turn-between (at .state) (at .input) (length (at .output)) _ _ (at .row) (at .output) _ _ _ (at .inv .3) some made refl went)
+
+enum-known-ended : tie.Need-enum-known-ended Inv-loop μ-loop
+enum-known-ended c = search needs
+
+same-length : tie.Need-same-length Inv-loop μ-loop
+same-length c = search needs
+
+same-length-2 : tie.Need-same-length-2 Inv-loop μ-loop
+same-length-2 c = search needs
+
+same-length-3 : tie.Need-same-length-3 Inv-loop μ-loop
+same-length-3 c = search needs
+
+returns : tie.Need-returns Inv-loop μ-loop
+returns c = search needs
+
+finish-requires : tie.Need-finish-requires Inv-loop μ-loop
+finish-requires c κs =
+    let at = c .before .before .before .loop in
+    let none : due-of (at .state .wall) ≡ 0 = sym (c .before .before .due .ensures .0) ∙ c .before .if1 .left in
+    (none-due (at .state .wall) (at .inv .3 .stands) none, at .inv .3 .text)
+
+same-length-4 : tie.Need-same-length-4 Inv-loop μ-loop
+same-length-4 c = search needs
+
+same-length-5 : tie.Need-same-length-5 Inv-loop μ-loop
+same-length-5 c = search needs
+
+same-length-6 : tie.Need-same-length-6 Inv-loop μ-loop
+same-length-6 c = search needs
+
+returns-2 : tie.Need-returns-2 Inv-loop μ-loop
+returns-2 c = search needs
+
+pub run-in-spec : {M : Type 1} → statement M
+run-in-spec =
+    tie.close
+    (tie.spec
+    Inv-loop
+    μ-loop
+    start-requires
+    loop-holds
+    due-requires
+    ready-requires
+    enum-known-next
+    advance-requires
+    loop-less
+    loop-again
+    enum-known-ended
+    same-length
+    same-length-2
+    same-length-3
+    returns
+    finish-requires
+    same-length-4
+    same-length-5
+    same-length-6
+    returns-2)

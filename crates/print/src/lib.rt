@@ -1,0 +1,85 @@
+// A wall file's lines, from one file descriptor to another. The part of the file that is due is read, its step
+// is taken, and the text of what is then shown is written.
+use show::Answer;
+use stream::Ended;
+use stream::State;
+use stream::Turn;
+use stream::finish;
+use stream::ready;
+use window::Window;
+ghost use Prim.Native.Nat.{_+_, _≤_};
+ghost use lib.ListN.{length};
+ghost use Rattle.tables.specs.Word.{Tables};
+ghost use Rattle.lines.specs.Row.{step-room};
+ghost use Rattle.stream.specs.State.{Between};
+ghost use Rattle.print.specs.Advanced.{Advanced};
+
+// Reads from one descriptor and writes to the other, some 64 KB a call.
+pub fn run(from: i32, to: i32) -> Ended {
+    let mut input = io::large_buffer();
+    let mut output = io::large_buffer();
+    let mut row = [0u64; 256];
+    let mut tables = tables::space();
+    tables::fill(&mut tables);
+    run_in(from, to, &tables, &mut input, &mut row, &mut output)
+}
+
+// Steps until nothing is due.
+fn run_in(
+    from: i32,
+    to: i32,
+    tables: &[u64],
+    input: &mut [u8],
+    row: &mut [u64],
+    output: &mut [u8],
+) -> Ended
+    requires { ⌜ Tables (now tables) × (6710 ≤ length (now input)) × (256 ≤ length (now row)) × (step-room ≤ length (now output)) ⌝ }
+{
+    let mut state = State::start();
+    while state.due() != 0 {
+        match ready(from, to, state, input, output) {
+            Turn::On(next) => {
+                state = advance(tables, next, input, row, output);
+            }
+            Turn::Stop(ended) => {
+                return ended;
+            }
+        }
+    }
+    finish(to, state, output)
+}
+
+// Takes the step of the due part, or of what is left where the input has ended.
+fn advance(tables: &[u64], state: State, input: &[u8], row: &mut [u64], output: &mut [u8]) -> State
+    requires { ⌜ Tables (now tables) × Between state (length (now input)) (length (now output)) × (256 ≤ length (now row)) × (state .text + step-room ≤ length (now output)) ⌝ }
+    ensures { λ r. ⌜ Advanced state (now (input .entry)) (now (row .entry)) (now (output .entry)) r (now (row .exit)) (now (output .exit)) ⌝ }
+{
+    let wall = state.wall;
+    let window = state.window;
+    let text = state.text;
+    let start = window.start;
+    let stop = window.part_end(wall.due());
+    let width = wall.width();
+    match show::step_by(
+        wall,
+        tables,
+        &input[start..stop],
+        &mut row[..width],
+        output,
+        text,
+    ) {
+        Answer::Went(went) => {
+            let next = went.wall;
+            State {
+                wall: next,
+                window: Window {
+                    start: stop,
+                    end: window.end,
+                    ended: window.ended,
+                },
+                text: went.end,
+            }
+        }
+        Answer::Unfit => state,
+    }
+}

@@ -1,0 +1,100 @@
+-- The tiles of a plain stretch of an accepted row: their predecessors are correct, and their pulse is that of three stamps that
+-- are heard. Assumes nothing.
+use mathlib.Core.Path.{_≡_, sym, _∙_}
+use mathlib.Core.Bool.{false}
+use mathlib.Core.List.{List}
+use Prim.Native.Nat.{ℕ, _+_, _-_, _*_, _≤_, _<_, min, max}
+use lib.ListN.{getD}
+use native.Mathlib.Omega.{arith}
+use Rattle.settings.specs.Settings.{step-of}
+use Rattle.rule.specs.Stamp.{code-of}
+use Rattle.settings.specs.declared.Settings.{Settings}
+use Rattle.settings.proofs.Laws.Cases.{by-order, by-equal}
+use Rattle.settings.proofs.Laws.Settings.{Limits, limits}
+use Rattle.admission.specs.Call.{Call}
+use Rattle.columns.specs.Marks.{marked, Plain}
+use Rattle.pulse.specs.Pulse.{stamp, pulse}
+use Rattle.pulse.specs.Plain.{Receivable, received, from-left, from-own, from-right, Correct, correct-pulse}
+use Rattle.columns.proofs.Laws.Columns.{links-inner, neighbours-inner}
+use Rattle.admission.proofs.Laws.Accepted.{Accepted}
+use Rattle.admission.proofs.Laws.Quiet.{quiet-column}
+use Rattle.pulse.proofs.Laws.Stampable.{Sender, at-inner, stampable, code, code-correct, Pulsing, pulse-two, ready-at, pulses-at}
+
+pub plain-column : {w : ℕ} {ms : List ℕ} {c : ℕ} → Plain w ms c → (k : ℕ) → c ≤ k + 1 → k ≤ c + 8 → marked ms k ≡ false
+plain-column {w} {ms} {c} p k i j =
+    by-equal k (c + 8)
+    (λ e. rw e (p .right))
+    (λ n. by-order c k
+    (λ l. quiet-column w ms (p .quiet) k l (omega arith))
+    (λ l. let e : k ≡ c - 1 = omega arith in rw e (p .left)))
+
+module _ {s : Settings} {ts : List ℕ} {x : Call} (r : Accepted s ts x) {c : ℕ} (p : Plain (s .width) (x .marks) c) (k : ℕ) (i : c ≤ k) (j : k < c + 8) where
+  abbrev drift : ℕ
+  drift = getD (x .drifts) k 0
+
+  bounds : Limits s
+  bounds = limits s (r .settings)
+
+  -- away from the ends
+  record Away : Type 0 where
+    pub past : 8 ≤ k
+    pub short : k + 3 < s .width
+
+  away : Away
+  away = record { past = omega (arith, p .later, p .quiet .starts); short = omega (arith, p .quiet .inside) }
+
+  here : k < s .width
+  here = omega (arith, away .short)
+
+  senders : Sender (s .width) k (k - 1) (3 * k + 1) × Sender (s .width) k k (3 * k + 1 + 1) × Sender (s .width) k (k + 1) (3 * k + 1 + 2)
+  senders =
+      let a = away in
+      at-inner (s .width) k (3 * k + 1) (bounds .width .0) here (sym (links-inner (s .width) (bounds .width .0) k (omega arith) (omega arith)))
+      (omega arith) (omega arith) (omega arith) (omega arith)
+
+  receivable : {n q : ℕ} → Sender (s .width) k n q → marked (x .marks) n ≡ false → Receivable drift ts (x .links) n q
+  receivable e m =
+      let t = stampable r k here e in
+      record { slow = t .slow; in-row = t .in-row; in-links = t .in-links; time = t .delay m .0; delay = t .delay m .1 }
+
+  heard : {n q : ℕ} → Sender (s .width) k n q → marked (x .marks) n ≡ false → received drift ts (x .links) n q ≡ code-of (stamp (s .width) ts x k n)
+  unfolding received
+  heard {n} {q} e m = sym (code-correct drift (getD ts n 0) (getD (x .links) q 0) m) ∙ code r k here e
+
+  correct-left : marked (x .marks) (k - 1) ≡ false
+  correct-left = plain-column p (k - 1) (omega (arith, away .past)) (omega arith)
+
+  correct-own : marked (x .marks) k ≡ false
+  correct-own = plain-column p k (omega arith) (omega arith)
+
+  correct-right : marked (x .marks) (k + 1) ≡ false
+  correct-right = plain-column p (k + 1) (omega arith) (omega arith)
+
+  pulsing : (step : ℕ) →
+      let ls = x .links in
+      Pulsing s ts x k (from-own s step drift ts ls k)
+      (min (from-left s step drift ts ls k) (from-right s step drift ts ls k)) (max (from-left s step drift ts ls k) (from-right s step drift ts ls k))
+  pulsing step =
+      let a = away in
+      let e = senders in
+      pulse-two r k here (neighbours-inner (s .width) (bounds .width .0) k (omega arith) (omega arith) (omega arith) (omega arith))
+      (e .0) (e .2) (heard (e .1) correct-own) (heard (e .0) correct-left) (heard (e .2) correct-right)
+
+  module _ (step : ℕ) (e : step ≡ step-of s) where
+    pub plain-tile : Correct s step drift ts (x .links) k
+    plain-tile =
+        let a = away in
+        let f = senders in
+        record {
+          later = omega arith;
+          narrow = omega (arith, bounds .width);
+          left = receivable (f .0) correct-left;
+          own = receivable (f .1) correct-own;
+          right = receivable (f .2) correct-right;
+          ready = ready-at (pulsing step) e;
+          held = bounds .hold .1;
+        }
+
+    pub plain-pulse : {v : ℕ} → v ≡ correct-pulse s step drift ts (x .links) k → v ≡ pulse s ts x k
+    unfolding correct-pulse
+    plain-pulse h = pulses-at (pulsing step) e h

@@ -1,0 +1,4 @@
+pub mod Pulse
+pub mod Stampable
+pub mod Plain
+pub mod Tiles

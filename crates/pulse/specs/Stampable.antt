@@ -1,0 +1,18 @@
+-- What the code asks of a link before it reads it. Assumes nothing.
+use mathlib.Core.Path.{_≡_}
+use mathlib.Core.Bool.{true, false}
+use mathlib.Core.List.{List}
+use Prim.Native.Nat.{ℕ, _-_, _/_, _≤_, _<_}
+use lib.ListN.{length, getD}
+use Rattle.rule.specs.Stamp.{silence}
+use Rattle.links.specs.Links.{latest-time}
+use Rattle.columns.specs.Marks.{marked}
+
+-- what the code asks of a link before it reads it: what an accepted row has
+pub record Stampable (drift : ℕ) (before marks links : List ℕ) (sender place : ℕ) : Type 0 where
+  pub slow : drift ≤ 10000
+  pub in-row : sender < length before
+  pub in-marks : sender / 8 < length marks
+  pub in-links : place < length links
+  pub delay : marked marks sender ≡ false → (getD before sender 0 ≤ latest-time) × (getD links place 0 ≤ 1000000)
+  pub faulty : marked marks sender ≡ true → (getD links place 0 ≡ silence → ⊥) → getD links place 0 ≤ latest-time

@@ -1,0 +1,73 @@
+-- Demand 3: how far one broken tile reaches, of two whole lists of row calls. Assumes nothing.
+use mathlib.Core.Path.{_≡_}
+use mathlib.Core.Bool.{true, false, _&&_, _||_}
+use mathlib.Core.List.{List, [], _∷_}
+use Prim.Native.Nat.{ℕ, zero, suc, _+_, _-_, _*_, _≤_, _<_, max}
+use lib.Dec.{eqb}
+use lib.ListN.{length, getD}
+use Rattle.settings.specs.Settings.{settings-refusal}
+use Rattle.settings.specs.declared.Settings.{Settings}
+use Rattle.columns.specs.Columns.{neighbours, is-predecessor, Within, link}
+use Rattle.admission.specs.Call.{Call}
+use Rattle.columns.specs.Marks.{marked}
+use Rattle.runs.specs.Run.{taken, rows, call-at, row-at}
+
+-- "All else equal means: .. the two L-th accepted calls get the same drifts, marks and link values, save the faulty tile's
+-- mark and the values of its links to row f + 1." The tile is that of column k in row f; the first run has no faulty tile.
+pub record Alike (w f k : ℕ) (xs ys : List Call) : Type 0 where
+  pub as-many : length xs ≡ length ys
+  pub drifts : (l : ℕ) → l < length xs → call-at xs l .drifts ≡ call-at ys l .drifts
+  pub first-clean : (l c : ℕ) → l < length xs → c < w → marked (call-at xs l .marks) c ≡ false
+  pub marks : (l c : ℕ) → l < length xs → c < w → marked (call-at ys l .marks) c ≡ (eqb l f && eqb c k)
+  pub links :
+      (l c j : ℕ) → l < length xs → c < w → j < w → is-predecessor w c j ≡ true → (eqb l f && eqb j k) ≡ false →
+      link w (call-at xs l .links) c j ≡ link w (call-at ys l .links) c j
+
+-- the same where other tiles are faulty too, alike in both runs: the tile of column k in row f is the only one that differs
+pub record Alike-among (w f k : ℕ) (xs ys : List Call) : Type 0 where
+  pub as-many : length xs ≡ length ys
+  pub drifts : (l : ℕ) → l < length xs → call-at xs l .drifts ≡ call-at ys l .drifts
+  pub correct : marked (call-at xs f .marks) k ≡ false
+  pub marks : (l c : ℕ) → l < length xs → c < w → marked (call-at ys l .marks) c ≡ (marked (call-at xs l .marks) c || (eqb l f && eqb c k))
+  pub links :
+      (l c j : ℕ) → l < length xs → c < w → j < w → is-predecessor w c j ≡ true → (eqb l f && eqb j k) ≡ false →
+      link w (call-at xs l .links) c j ≡ link w (call-at ys l .links) c j
+
+-- "A difference is the larger less the smaller."
+unfoldable pub apart : (a b : ℕ) → ℕ
+apart a b = (a - b) + (b - a)
+
+-- "B the largest difference between neighbouring pulses of row f in the first run"
+unfoldable pub widest : (t : ℕ) → (row : List ℕ) → (columns : List ℕ) → ℕ
+widest t ts [] = 0
+widest t ts (k ∷ ks) = max (apart t (getD ts k 0)) (widest t ts ks)
+
+unfoldable pub gap-below : (n : ℕ) → (w : ℕ) → (row : List ℕ) → ℕ
+gap-below zero w ts = 0
+gap-below (suc c) w ts = max (gap-below c w ts) (widest (getD ts c 0) ts (neighbours w c))
+
+unfoldable pub widest-gap : (w : ℕ) → (row : List ℕ) → ℕ
+widest-gap w ts = gap-below w w ts
+
+-- "every correct tile's pulse in rows up to f, and every pulse of a later row L that lies more than L - f hops from the faulty
+-- column, is the same in both runs, and every other pulse of a row L above f differs between them by at most 2B + 8h + (L - f - 1)"
+pub record Reach (s : Settings) (ts : List ℕ) (f k : ℕ) (rs qs : List (List ℕ)) : Type 0 where
+  pub before : (l c : ℕ) → l ≤ f → c < s .width → getD (row-at ts rs l) c 0 ≡ getD (row-at ts qs l) c 0
+  pub far :
+      (l c : ℕ) → f < l → l ≤ length rs → c < s .width → (Within (s .width) (l - f) k c → ⊥) →
+      getD (row-at ts rs l) c 0 ≡ getD (row-at ts qs l) c 0
+  pub near :
+      (l c : ℕ) → f < l → l ≤ length rs → c < s .width →
+      apart (getD (row-at ts rs l) c 0) (getD (row-at ts qs l) c 0) ≤ 2 * widest-gap (s .width) (row-at ts rs f) + 8 * s .unit + (l - f - 1)
+
+unfoldable pub One-fault : Type 0
+One-fault =
+    (s : Settings) (ts : List ℕ) (xs ys : List Call) (f k : ℕ) → settings-refusal s ≡ 0 → length ts ≡ s .width → k < s .width →
+    length (rows s xs ts) ≡ s .rows → length (rows s ys ts) ≡ s .rows → f < s .rows → Alike (s .width) f k (taken s xs ts) (taken s ys ts) →
+    Reach s ts f k (rows s xs ts) (rows s ys ts)
+
+unfoldable pub One-more-fault : Type 0
+One-more-fault =
+    (s : Settings) (ts : List ℕ) (xs ys : List Call) (f k : ℕ) → settings-refusal s ≡ 0 → length ts ≡ s .width → k < s .width →
+    length (rows s xs ts) ≡ s .rows → length (rows s ys ts) ≡ s .rows → f < s .rows → Alike-among (s .width) f k (taken s xs ts) (taken s ys ts) →
+    Reach s ts f k (rows s xs ts) (rows s ys ts)

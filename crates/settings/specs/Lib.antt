@@ -1,0 +1,4 @@
+pub mod Refusal
+pub mod Rounding
+pub mod Settings
+pub mod Promises

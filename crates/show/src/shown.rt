@@ -1,0 +1,83 @@
+// The text of a step: the line of a refusal, or the lines of the row that is then shown.
+use steps::Place;
+use steps::Took;
+use steps::Wall;
+use steps::rows::copy;
+ghost use mathlib.Core.Path.{_≡_};
+ghost use mathlib.Core.Bool.{true};
+ghost use Prim.Native.Nat.{_+_, _≤_};
+ghost use lib.ListN.{length};
+ghost use Rattle.columns.specs.Marks.{mark-bytes};
+ghost use Rattle.tables.specs.Word.{Tables};
+ghost use Rattle.lines.specs.Wrote.{Wrote};
+ghost use Rattle.steps.specs.Shown.{row-shown, no-marks};
+ghost use Rattle.show.specs.Text.{texts-of};
+ghost use Rattle.steps.specs.Step.{step-of};
+ghost use Rattle.steps.specs.Fit.{place-fits, wall-fits};
+ghost use Rattle.lines.specs.Row.{step-room};
+ghost use Rattle.steps.specs.Take.{took-of, Next-row};
+
+// Writes the text of a step that was taken, and its row in the place of the last; answers where the text ends.
+pub fn show(
+    tables: &[u64],
+    wall: Wall,
+    took: Took,
+    part: &[u8],
+    next: &[u64],
+    row: &mut [u64],
+    out: &mut [u8],
+    at: usize,
+) -> usize
+    requires { ⌜ Tables (now tables) × (wall-fits wall (length (now row)) ≡ true) × (at + step-room ≤ length (now out)) ⌝ }
+    requires { ⌜ (took ≡ took-of (step-of wall (now row) (now part))) × Next-row wall (now row) (now part) (now next) ⌝ }
+    ensures text { λ r. ⌜ Wrote (now (out .entry)) at (texts-of (step-of wall (now (row .entry)) (now (part .entry)) .shows)) (now (out .exit)) r ⌝ }
+    ensures row { λ r. ⌜ now (row .exit) ≡ step-of wall (now (row .entry)) (now (part .entry)) .row ⌝ }
+{
+    let number = took.number;
+    if number != 0 {
+        return lines::refused_line(number as u64, took.offset, out, at);
+    }
+    match wall {
+        Wall::New => at,
+        Wall::Start(_) => {
+            copy(next, row);
+            at
+        }
+        Wall::Row(place) => {
+            let marks = fields::body((row.len() + 7) / 8, part);
+            let end = lines(tables, place, marks, row, out, at);
+            copy(next, row);
+            end
+        }
+        Wall::End(place) => last_lines(tables, place, row, out, at),
+        Wall::Over => at,
+    }
+}
+
+// The lines of the last row accepted; row 0 has none.
+fn lines(
+    tables: &[u64],
+    place: Place,
+    marks: &[u8],
+    row: &[u64],
+    out: &mut [u8],
+    at: usize,
+) -> usize
+    requires { ⌜ Tables (now tables) × (place-fits place (length (now row)) ≡ true) × (length (now marks) ≡ mark-bytes (length (now row))) × (at + step-room ≤ length (now out)) ⌝ }
+    ensures { λ r. ⌜ Wrote (now (out .entry)) at (texts-of (row-shown (place .settings) (place .row) (now (marks .entry)) (now (row .entry)))) (now (out .exit)) r ⌝ }
+{
+    if place.row == 0 {
+        return at;
+    }
+    text::row_lines(tables, row.len(), place.row, marks, row, out, at)
+}
+
+// The same of row R, where all tiles are correct.
+fn last_lines(tables: &[u64], place: Place, row: &[u64], out: &mut [u8], at: usize) -> usize
+    requires { ⌜ Tables (now tables) × (place-fits place (length (now row)) ≡ true) × (at + step-room ≤ length (now out)) ⌝ }
+    ensures { λ r. ⌜ Wrote (now (out .entry)) at (texts-of (row-shown (place .settings) (place .row) (no-marks (place .settings .width)) (now (row .entry)))) (now (out .exit)) r ⌝ }
+{
+    let marks = [0u8; 32];
+    let bytes = (row.len() + 7) / 8;
+    lines(tables, place, &marks[..bytes], row, out, at)
+}

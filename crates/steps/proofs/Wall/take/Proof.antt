@@ -1,0 +1,164 @@
+-- `Wall::take` meets its contract. Assumes nothing.
+use mathlib.Core.Path.{_≡_, refl, sym, _∙_, ap}
+use mathlib.Core.Bool.{true}
+use borrow.Author.Tests.{not-true, not-false}
+use lib.ListN.{length}
+use Rattle.steps.specs.Step.{stepped, step-of}
+use Rattle.steps.specs.Shown.{number-shown, offset-shown}
+use Rattle.steps.specs.Fit.{wall-fits}
+use Rattle.steps.specs.Take.{took-of, next-row, takes}
+use Rattle.steps.specs.declared.Wall.{Wall}
+use Rattle.steps.specs.declared.Wall.the-variants.{New, Over}
+use Rattle.steps.proofs.Laws.Taken.{unfit, taking}
+use borrow.Author.Needs.{needs}
+use Rattle.steps.proofs.Wall.take.Statement.{statement}
+use Rattle.steps.proofs.Wall.take.Tie as tie
+
+-- the start of the function, from the first row's length
+abbrev start : tie.After-fits2 → tie.Start
+start c = c .before .before .before .before
+
+row-fits : (c : tie.Else1) → let a = start (c .before) .args in wall-fits (a .self) (length (a .row .now)) ≡ true
+row-fits c = sym (c .before .fits2 .ensures) ∙ not-false _ (c .if1 .left)
+
+next-fits : (c : tie.Else2) → let a = start (c .before .before .before) .args in wall-fits (a .self) (length (a .next .now)) ≡ true
+next-fits c = sym (c .before .fits3 .ensures) ∙ not-false _ (c .if2 .left)
+
+both : (c : tie.Else2) → let a = start (c .before .before .before) .args in takes (a .self) (length (a .row .now)) (length (a .next .now)) ≡ true
+unfolding takes
+both c = rw (row-fits (c .before .before), next-fits c)
+
+fits-requires : tie.Need-fits-requires
+fits-requires c κs = search needs
+
+returns : tie.Need-returns
+unfolding takes
+returns c =
+    let a = start (c .before) .args in
+    unfit (a .self) (a .part .now) (a .row .now) (a .next .now) (rw (sym (c .before .fits2 .ensures) ∙ not-true _ (c .if1 .taken)))
+
+fits-requires-2 : tie.Need-fits-requires-2
+fits-requires-2 c κs = search needs
+
+returns-2 : tie.Need-returns-2
+unfolding takes
+returns-2 c =
+    let e = c .before .before in
+    let a = start (e .before) .args in
+    unfit (a .self) (a .part .now) (a .row .now) (a .next .now) (rw (row-fits e, sym (c .before .fits3 .ensures) ∙ not-true _ (c .if2 .taken)))
+
+enum-told : tie.Need-enum-told
+enum-told c = search needs
+
+settings-requires : tie.Need-settings-requires
+settings-requires c κs = search needs
+
+enum-known-self : tie.Need-enum-known-self
+enum-known-self c = search needs
+
+start-requires : tie.Need-start-requires
+unfolding wall-fits
+start-requires c κs =
+    let w = c .before .before in
+    let e = w .before .before in
+    sym (ap (λ (x : Wall). wall-fits x (length (start (e .before .before .before) .args .next .now))) (w .self .given .1)) ∙ next-fits e
+
+enum-known-self-2 : tie.Need-enum-known-self-2
+enum-known-self-2 c = search needs
+
+row-requires : tie.Need-row-requires
+unfolding wall-fits
+row-requires c κs =
+    let w = c .before .before in
+    let e = w .before .before in
+    let a = start (e .before .before .before) .args in (
+      sym (ap (λ (x : Wall). wall-fits x (length (a .row .now))) (w .self2 .given .1)) ∙ row-fits (e .before .before),
+      sym (ap (λ (x : Wall). wall-fits x (length (a .next .now))) (w .self2 .given .1)) ∙ next-fits e,
+    )
+
+enum-known-self-3 : tie.Need-enum-known-self-3
+enum-known-self-3 c = search needs
+
+end-requires : tie.Need-end-requires
+end-requires c κs = search needs
+
+enum-told-2 : tie.Need-enum-told-2
+enum-told-2 c = search needs
+
+went-on-requires : tie.Need-went-on-requires
+went-on-requires c κs = search needs
+
+returns-3 : tie.Need-returns-3
+unfolding step-of next-row
+returns-3 c =
+    let t = c .before in
+    let e = t .before .before in
+    let a = start (e .before .before .before) .args in
+    taking (a .self) (a .part .now) (a .row .now) (a .next .now) New (t .enum-told .given .1) (both e) (c .settings .ensures (a .row .now)) refl
+
+same-length : tie.Need-same-length
+same-length c = search needs
+
+returns-4 : tie.Need-returns-4
+unfolding step-of next-row
+returns-4 c =
+    let f = c .before .before in
+    let w = f .before .before .before in
+    let e = w .before .before in
+    let a = start (e .before .before .before) .args in
+    taking (a .self) (a .part .now) (a .row .now) (a .next .now) _ (w .self .given .1) (both e) (f .start .ensures .0 (a .row .now)) (f .start .ensures .1 (a .row .now))
+
+same-length-2 : tie.Need-same-length-2
+same-length-2 c = search needs
+
+returns-5 : tie.Need-returns-5
+unfolding step-of next-row
+returns-5 c =
+    let f = c .before .before in
+    let w = f .before .before .before in
+    let e = w .before .before in
+    let a = start (e .before .before .before) .args in
+    taking (a .self) (a .part .now) (a .row .now) (a .next .now) _ (w .self2 .given .1) (both e) (f .row .ensures .0) (f .row .ensures .1)
+
+returns-6 : tie.Need-returns-6
+unfolding step-of next-row
+returns-6 c =
+    let w = c .before .before in
+    let e = w .before .before in
+    let a = start (e .before .before .before) .args in
+    taking (a .self) (a .part .now) (a .row .now) (a .next .now) _ (w .self3 .given .1) (both e) (c .end .ensures (a .row .now)) refl
+
+returns-7 : tie.Need-returns-7
+unfolding step-of next-row took-of stepped number-shown offset-shown
+returns-7 c =
+    let t = c .before in
+    let e = t .before .before in
+    let a = start (e .before .before .before) .args in
+    taking (a .self) (a .part .now) (a .row .now) (a .next .now) Over (t .enum-told2 .given .1) (both e)
+    (c .went-on .ensures ∙ rw (t .enum-told2 .given .1)) refl
+
+pub take-spec : {M : Type 1} → statement M
+take-spec =
+    tie.close
+    (tie.spec
+    fits-requires
+    returns
+    fits-requires-2
+    returns-2
+    enum-told
+    settings-requires
+    enum-known-self
+    start-requires
+    enum-known-self-2
+    row-requires
+    enum-known-self-3
+    end-requires
+    enum-told-2
+    went-on-requires
+    returns-3
+    same-length
+    returns-4
+    same-length-2
+    returns-5
+    returns-6
+    returns-7)

@@ -1,0 +1,81 @@
+-- The file step by step: each step is given the part of the file that is due, and the row that the last one left.
+-- Assumes nothing.
+use mathlib.Core.Bool.{cond}
+use mathlib.Core.List.{List, [], _∷_, _++_}
+use Prim.Native.Nat.{ℕ, zero, suc, _+_}
+use lib.Dec.{eqb, ltb}
+use lib.ListN.{length, take, drop}
+use Rattle.settings.specs.declared.Settings.{Settings}
+use Rattle.row.specs.Row.{row-of}
+use Rattle.fields.specs.Field.{body}
+use Rattle.contents.specs.Contents.{settings-size, settings-in, start-size, times-in, row-size, marks-in, call-in}
+use Rattle.steps.specs.Shown.{Shown, turned-away, row-shown, no-marks}
+use Rattle.steps.specs.Number.{settings-number, start-number, row-number, row-offset}
+use Rattle.steps.specs.declared.Place.{Place}
+use Rattle.steps.specs.declared.Wall.{Wall}
+use Rattle.steps.specs.declared.Wall.the-variants.{New, Start, Row, End, Over}
+
+unfoldable pub place : Settings → (row offset : ℕ) → Place
+place s l at = record { settings = s; row = l; offset = at }
+
+-- how many bytes of the file a step is given, fewer only where the file ends
+unfoldable pub due-size : Wall → ℕ
+due-size New = 3 + settings-size
+due-size (Start p) = 3 + start-size (p .settings .width)
+due-size (Row p) = row-size (p .settings .width)
+due-size (End p) = 1
+due-size Over = 0
+
+-- what a step leaves: the wall as it then stands, the row, and what is shown
+pub record Stepped : Type 0 where
+  pub next : Wall
+  pub row : List ℕ
+  pub shows : List Shown
+
+unfoldable pub stepped : Wall → (row : List ℕ) → List Shown → Stepped
+stepped x ts shows = record { next = x; row = ts; shows = shows }
+
+unfoldable pub away : (row : List ℕ) → (number offset : ℕ) → Stepped
+away ts n at = stepped Over ts (turned-away n at ∷ [])
+
+unfoldable pub settings-step : (row part : List ℕ) → Stepped
+settings-step ts bs =
+    cond (eqb (settings-number bs) 0)
+    (stepped (Start (place (settings-in (body settings-size bs)) 0 (3 + settings-size))) ts [])
+    (away ts (settings-number bs) 0)
+
+unfoldable pub start-step : Settings → (at : ℕ) → (row part : List ℕ) → Stepped
+start-step s at ts bs =
+    let size = start-size (s .width) in
+    cond (eqb (start-number s bs) 0)
+    (stepped (Row (place s 0 (at + (3 + size)))) (times-in (s .width) (body size bs)) [])
+    (away ts (start-number s bs) at)
+
+-- after the last row the end of the file is due
+unfoldable pub after-row : Settings → (l at : ℕ) → Wall
+after-row s l at = cond (ltb l (s .rows)) (Row (place s l at)) (End (place s l at))
+
+unfoldable pub row-step : Settings → (l at : ℕ) → (row part : List ℕ) → Stepped
+row-step s l at ts bs =
+    let w = s .width in
+    cond (eqb (row-number s ts bs) 0)
+    (stepped (after-row s (suc l) (at + row-size w)) (row-of s ts (call-in w bs)) (row-shown s l (marks-in w bs) ts))
+    (away ts (row-number s ts bs) (row-offset s at bs))
+
+unfoldable pub end-step : Settings → (l at : ℕ) → (row part : List ℕ) → Stepped
+end-step s l at ts bs =
+    cond (eqb (length bs) 0) (stepped Over ts (row-shown s l (no-marks (s .width)) ts)) (away ts 44 at)
+
+unfoldable pub step-of : Wall → (row part : List ℕ) → Stepped
+step-of New ts bs = settings-step ts bs
+step-of (Start p) ts bs = start-step (p .settings) (p .offset) ts bs
+step-of (Row p) ts bs = row-step (p .settings) (p .row) (p .offset) ts bs
+step-of (End p) ts bs = end-step (p .settings) (p .row) (p .offset) ts bs
+step-of Over ts bs = stepped Over ts []
+
+-- n steps over what is left of the file: each is given the due part, and the next begins after it
+unfoldable pub steps-shown : (n : ℕ) → Wall → (row rest : List ℕ) → List Shown
+steps-shown zero x ts bs = []
+steps-shown (suc n) x ts bs =
+    let o = step-of x ts (take (due-size x) bs) in
+    o .shows ++ steps-shown n (o .next) (o .row) (drop (due-size x) bs)

@@ -1,0 +1,55 @@
+-- The operation that takes a step: what it answers, and the row that it writes. Assumes nothing.
+use mathlib.Core.Path.{_≡_}
+use mathlib.Core.Bool.{Bool, cond, _&&_}
+use mathlib.Core.List.{List}
+use Prim.Native.Nat.{ℕ}
+use lib.Dec.{eqb}
+use lib.ListN.{length}
+use Rattle.steps.specs.Step.{Stepped, step-of}
+use Rattle.steps.specs.Shown.{number-shown, offset-shown}
+use Rattle.steps.specs.Fit.{wall-fits}
+use Rattle.steps.specs.declared.Wall.{Wall}
+use Rattle.steps.specs.declared.Wall.the-variants.{New, Start, Row, End, Over}
+use Rattle.steps.specs.declared.Took.{Took}
+use Rattle.steps.specs.declared.Take.{Take}
+use Rattle.steps.specs.declared.Take.the-variants as take
+
+-- the wall of a step, with the number and the offset of its refusal
+unfoldable pub took : Wall → (number offset : ℕ) → Took
+took x n at = record { wall = x; number = n; offset = at }
+
+unfoldable pub took-of : Stepped → Took
+took-of o = took (o .next) (number-shown (o .shows)) (offset-shown (o .shows))
+
+-- a lent row after a step that writes it: where it is turned away it holds what it held
+unfoldable pub row-left : Stepped → (held : List ℕ) → List ℕ
+row-left o held = cond (eqb (number-shown (o .shows)) 0) (o .row) held
+
+-- row 0 and each later row are written
+unfoldable pub next-row : Wall → (row part held : List ℕ) → List ℕ
+next-row New ts bs held = held
+next-row (Start p) ts bs held = row-left (step-of (Start p) ts bs) held
+next-row (Row p) ts bs held = row-left (step-of (Row p) ts bs) held
+next-row (End p) ts bs held = held
+next-row Over ts bs held = held
+
+-- both rows are the wall's
+unfoldable pub takes : Wall → (row next : ℕ) → Bool
+takes x n m = wall-fits x n && wall-fits x m
+
+-- the answer, where a row of so many times is lent to be written: a step of the definition where both rows fit
+unfoldable pub take-of : Wall → (part row : List ℕ) → (next : ℕ) → Take
+take-of x bs ts n = cond (takes x (length ts) n) (take.Took (took-of (step-of x ts bs))) take.Unfit
+
+-- and that row afterwards
+unfoldable pub row-after : Wall → (part row held : List ℕ) → List ℕ
+row-after x bs ts held = cond (takes x (length ts) (length held)) (next-row x ts bs held) held
+
+pub record Taking (x : Wall) (part row held : List ℕ) (answer : Take) (next : List ℕ) : Type 0 where
+  pub answered : answer ≡ take-of x part row (length held)
+  pub written : next ≡ row-after x part row held
+
+-- a row as a step wrote it, whatever it held before
+pub record Next-row (x : Wall) (row part next : List ℕ) : Type 0 where
+  pub held : List ℕ
+  pub is : next ≡ next-row x row part held

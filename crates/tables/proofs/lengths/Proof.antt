@@ -1,0 +1,61 @@
+-- `text::table::lengths` meets its contract. The loop's invariant: the places passed are filled. Assumes nothing.
+use Prim.Native.Nat.{ℕ, _-_, _≤_}
+use lib.ListN.{length}
+use native.Mathlib.Omega.{arith}
+use Rattle.tables.specs.Word.{spaced, Filled}
+use Rattle.tables.proofs.Laws.Table.{filled-none, filled-more, filled-all}
+use Rattle.tables.proofs.lengths.Statement.{statement}
+use Rattle.tables.proofs.lengths.Tie as tie
+
+abbrev Inv-loop : tie.InvT-loop
+Inv-loop table₀ k₀ table k = (k ≤ 256) × Filled table₀ table 1168 k (λ (n : ℕ). length (spaced n))
+
+abbrev μ-loop : tie.MeasureT-loop
+μ-loop table₀ k₀ table k = 256 - k
+
+loop-holds : tie.Need-loop-holds Inv-loop μ-loop
+loop-holds c = (omega arith, filled-none (c .before .args .table .now) 1168 (λ (n : ℕ). length (spaced n)))
+
+short-length-requires : tie.Need-short-length-requires Inv-loop μ-loop
+short-length-requires c κs = omega arith
+
+add-table : tie.Need-add-table Inv-loop μ-loop
+add-table c = omega arith
+
+mul-table : tie.Need-mul-table Inv-loop μ-loop
+mul-table c = omega arith
+
+slice-write-table : tie.Need-slice-write-table Inv-loop μ-loop
+slice-write-table c = omega (arith, c .before .before .loop .inv .1 .as-long)
+
+add-k : tie.Need-add-k Inv-loop μ-loop
+add-k c = omega arith
+
+loop-less : tie.Need-loop-less Inv-loop μ-loop
+loop-less c = omega arith
+
+loop-again : tie.Need-loop-again Inv-loop μ-loop
+loop-again c = (omega arith, filled-more 1168 (c .before .before .loop .k) (c .short-length .result) (λ (n : ℕ). length (spaced n)) (c .before .before .loop .inv .1) (omega arith) (c .short-length .ensures))
+
+same-length : tie.Need-same-length Inv-loop μ-loop
+same-length c = c .before .loop .inv .1 .as-long
+
+returns : tie.Need-returns Inv-loop μ-loop
+returns c = filled-all 1168 (c .before .loop .k) 256 (λ (n : ℕ). length (spaced n)) (c .before .loop .inv .1) (omega arith)
+
+pub lengths-spec : {M : Type 1} → statement M
+lengths-spec =
+    tie.close
+    (tie.spec
+    Inv-loop
+    μ-loop
+    loop-holds
+    short-length-requires
+    add-table
+    mul-table
+    slice-write-table
+    add-k
+    loop-less
+    loop-again
+    same-length
+    returns)

@@ -1,0 +1,65 @@
+-- Lines and their lengths. Assumes nothing.
+use mathlib.Core.Path.{_≡_, sym, _∙_, ap}
+use mathlib.Core.List.{List, [], _∷_, _++_, append-nil, append-assoc}
+use Prim.Native.Nat.{ℕ, _+_, _-_, _*_, _≤_, _<_}
+use native.Mathlib.Numerals.{add-one}
+use native.Mathlib.Omega.{arith}
+use lib.ListN.{length, length-append, take, getD}
+use lib.Seq.{take-suc}
+use Rattle.settings.specs.declared.Settings.{Settings}
+use Rattle.reach.specs.Search.{reach-in-row}
+use Rattle.reach.specs.declared.Reached.{Reached}
+use Rattle.reach.specs.declared.Reached.the-variants.{Within, Outside, Refused}
+use Rattle.lines.specs.Number.{decimal}
+use Rattle.lines.specs.Line.{space}
+use Rattle.lines.proofs.Laws.Number.{decimal-length}
+use Rattle.telling.specs.Text.{b-word, r-word, numbers-text, line-text, reach-text, reach-texts, gap-text}
+
+-- one more number of a line
+numbers-append : (ns : List ℕ) (n : ℕ) → numbers-text (ns ++ (n ∷ [])) ≡ numbers-text ns ++ (space ∷ decimal n)
+unfolding numbers-text
+numbers-append [] n = append-nil (space ∷ decimal n)
+numbers-append (k ∷ ns) n = ap (λ (t : List ℕ). (space ∷ decimal k) ++ t) (numbers-append ns n) ∙ sym (append-assoc (space ∷ decimal k) (numbers-text ns) (space ∷ decimal n))
+
+pub numbers-more : (ns : List ℕ) (i : ℕ) → i < length ns → numbers-text (take i ns) ++ (space ∷ decimal (getD ns i 0)) ≡ numbers-text (take (i + 1) ns)
+numbers-more ns i l = sym (numbers-append (take i ns) (getD ns i 0)) ∙ ap numbers-text (rw add-one (sym (take-suc ns i 0 l)))
+
+-- one more row that is asked for
+module _ (s : Settings) (b f : ℕ) where
+  abbrev of-row : ℕ → List ℕ
+  of-row l = reach-text f l (reach-in-row s b f l 0)
+
+  texts-append : (ls : List ℕ) (l : ℕ) → reach-texts s b f (ls ++ (l ∷ [])) ≡ reach-texts s b f ls ++ of-row l
+  unfolding reach-texts
+  texts-append [] l = append-nil (of-row l)
+  texts-append (k ∷ ls) l = ap (λ (t : List ℕ). of-row k ++ t) (texts-append ls l) ∙ sym (append-assoc (of-row k) (reach-texts s b f ls) (of-row l))
+
+  pub texts-more : (ls : List ℕ) (i : ℕ) → i < length ls → reach-texts s b f (take i ls) ++ of-row (getD ls i 0) ≡ reach-texts s b f (take (i + 1) ls)
+  texts-more ls i l = sym (texts-append (take i ls) (getD ls i 0)) ∙ ap (reach-texts s b f) (rw add-one (sym (take-suc ls i 0 l)))
+
+-- how long they are
+pub numbers-length : (ns : List ℕ) → length (numbers-text ns) ≤ 21 * length ns
+unfolding numbers-text
+numbers-length [] = omega arith
+numbers-length (n ∷ ns) = omega (arith, numbers-length ns, decimal-length n, length-append (space ∷ decimal n) (numbers-text ns))
+
+pub line-length : (word ns : List ℕ) → length (line-text word ns) ≤ length word + 21 * length ns + 1
+unfolding line-text
+line-length word ns = omega (arith, numbers-length ns, length-append word (numbers-text ns), length-append (word ++ numbers-text ns) (10 ∷ []))
+
+pub reach-length : (f l : ℕ) (r : Reached) → length (reach-text f l r) ≤ 86
+unfolding reach-text
+reach-length f l (Within r) = omega (arith, line-length r-word (f ∷ l ∷ r .ticks ∷ (l - f) ∷ []))
+reach-length f l Outside = omega arith
+reach-length f l (Refused n) = omega arith
+
+pub texts-length : (s : Settings) (b f : ℕ) (ls : List ℕ) → length (reach-texts s b f ls) ≤ 86 * length ls
+unfolding reach-texts
+texts-length s b f [] = omega arith
+texts-length s b f (l ∷ ls) =
+    omega (arith, texts-length s b f ls, reach-length f l (reach-in-row s b f l 0), length-append (reach-text f l (reach-in-row s b f l 0)) (reach-texts s b f ls))
+
+pub gap-length : (s : Settings) (b f : ℕ) (ls : List ℕ) → length (gap-text s b f ls) ≤ 44 + 86 * length ls
+unfolding gap-text
+gap-length s b f ls =
+    omega (arith, texts-length s b f ls, line-length b-word (f ∷ b ∷ []), length-append (line-text b-word (f ∷ b ∷ [])) (reach-texts s b f ls))

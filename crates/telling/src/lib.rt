@@ -1,0 +1,196 @@
+// What a step brought: nothing yet, a row's B and reach, a faulty tile, a refusal, or the largest reach.
+mod line;
+
+use columns::marked;
+use line::line;
+use reach::Reached;
+use reach::reach_in_row;
+use reach::survey::Surveyed;
+use reach::survey::survey;
+use settings::rounding::less;
+use settings::rounding::smaller;
+use steps::Place;
+use steps::Took;
+use steps::Wall;
+ghost use mathlib.Core.Path.{_≡_};
+ghost use mathlib.Core.Bool.{true};
+ghost use Prim.Native.Nat.{_+_, _≤_};
+ghost use lib.ListN.{length, take};
+ghost use Rattle.columns.specs.Marks.{mark-bytes};
+ghost use Rattle.reach.specs.Search.{reach-in-row};
+ghost use Rattle.lines.specs.Wrote.{Wrote};
+ghost use Rattle.steps.specs.Step.{step-of};
+ghost use Rattle.steps.specs.Fit.{place-fits, wall-fits};
+ghost use Rattle.lines.specs.Row.{step-room};
+ghost use Rattle.steps.specs.Take.{took-of};
+ghost use Rattle.telling.specs.Text.{reach-text, gap-text};
+ghost use Rattle.telling.specs.Telling.{first-marked, row-says, telling};
+ghost use Rattle.telling.specs.Said.{Said};
+
+// The wall as it then stands, the largest reach so far, and where the text ends.
+pub struct Told {
+    pub wall: Wall,
+    pub largest: u64,
+    pub end: usize,
+}
+
+// So many of the rows asked for count.
+pub const ASKED_MOST: u64 = 16;
+
+// The row is the last before the step, and the part is what the step took.
+pub fn tell(
+    asked: &[u64],
+    wall: Wall,
+    took: Took,
+    part: &[u8],
+    row: &[u64],
+    largest: u64,
+    out: &mut [u8],
+    at: usize,
+) -> Told
+    requires { ⌜ (wall-fits wall (length (now row)) ≡ true) × (took ≡ took-of (step-of wall (now row) (now part))) × (at + step-room ≤ length (now out)) ⌝ }
+    ensures { λ r. ⌜ Said (telling (take 16 (now (asked .entry))) wall largest (now (row .entry)) (now (part .entry))) r (now (out .entry)) at (now (out .exit)) ⌝ }
+{
+    let after = took.wall;
+    let number = took.number;
+    if number != 0 {
+        let end = lines::refused_line(number as u64, took.offset, out, at);
+        return Told {
+            wall: after,
+            largest,
+            end,
+        };
+    }
+    match wall {
+        Wall::New => Told {
+            wall: after,
+            largest,
+            end: at,
+        },
+        Wall::Start(_) => Told {
+            wall: after,
+            largest,
+            end: at,
+        },
+        Wall::Row(place) => {
+            let bytes = (row.len() + 7) / 8;
+            row_told(
+                asked,
+                place,
+                after,
+                &part[3..3 + bytes],
+                row,
+                largest,
+                out,
+                at,
+            )
+        }
+        Wall::End(_) => {
+            let end = line(b"largest", &[largest], out, at);
+            Told {
+                wall: after,
+                largest,
+                end,
+            }
+        }
+        Wall::Over => Told {
+            wall: after,
+            largest,
+            end: at,
+        },
+    }
+}
+
+// A row whose marks are known. One with a faulty tile ends the search.
+fn row_told(
+    asked: &[u64],
+    place: Place,
+    after: Wall,
+    marks: &[u8],
+    row: &[u64],
+    largest: u64,
+    out: &mut [u8],
+    at: usize,
+) -> Told
+    requires { ⌜ (place-fits place (length (now row)) ≡ true) × (length (now marks) ≡ mark-bytes (length (now row))) × (at + step-room ≤ length (now out)) ⌝ }
+    ensures { λ r. ⌜ Said (row-says (take 16 (now (asked .entry))) place after largest (now (marks .entry)) (now (row .entry))) r (now (out .entry)) at (now (out .exit)) ⌝ }
+{
+    let width = row.len();
+    let column = first_marked(width, marks);
+    if column < width {
+        let end = line(b"faulty", &[place.row, column as u64], out, at);
+        return Told {
+            wall: Wall::Over,
+            largest,
+            end,
+        };
+    }
+    let settings = place.settings;
+    match survey(settings, place.row, largest, row) {
+        Surveyed::Row { gap, largest } => {
+            let end = row_lines(asked, place, gap, out, at);
+            Told {
+                wall: after,
+                largest,
+                end,
+            }
+        }
+        // No row of a wall file is such a one.
+        Surveyed::Outside => Told {
+            wall: Wall::Over,
+            largest,
+            end: at,
+        },
+        Surveyed::Refused(_) => Told {
+            wall: Wall::Over,
+            largest,
+            end: at,
+        },
+    }
+}
+
+// The lowest marked column, or the width where there is none.
+fn first_marked(width: usize, marks: &[u8]) -> usize
+    requires { ⌜ (width ≤ 256) × (length (now marks) ≡ mark-bytes width) ⌝ }
+    ensures { λ r. ⌜ r ≡ first-marked width (now (marks .entry)) ⌝ }
+{
+    let mut c = 0;
+    while c < width {
+        if marked(marks, c) {
+            return c;
+        }
+        c += 1;
+    }
+    c
+}
+
+// B of the row, and its reach in each later row that is asked for.
+fn row_lines(asked: &[u64], place: Place, gap: u64, out: &mut [u8], at: usize) -> usize
+    requires { ⌜ at + step-room ≤ length (now out) ⌝ }
+    ensures { λ r. ⌜ Wrote (now (out .entry)) at (gap-text (place .settings) gap (place .row) (take 16 (now (asked .entry)))) (now (out .exit)) r ⌝ }
+{
+    let mut end = line(b"b", &[place.row, gap], out, at);
+    let count = smaller(asked.len() as u64, ASKED_MOST) as usize;
+    let mut i = 0;
+    while i < count {
+        end = reach_line(place, gap, asked[i], out, end);
+        i += 1;
+    }
+    end
+}
+
+// The reach in a later row of the wall; any other row has no line.
+fn reach_line(place: Place, gap: u64, later: u64, out: &mut [u8], at: usize) -> usize
+    requires { ⌜ at + 100 ≤ length (now out) ⌝ }
+    ensures { λ r. ⌜ Wrote (now (out .entry)) at (reach-text (place .row) later (reach-in-row (place .settings) gap (place .row) later 0)) (now (out .exit)) r ⌝ }
+{
+    let settings = place.settings;
+    match reach_in_row(settings, gap, place.row, later, 0) {
+        Reached::Within(range) => {
+            let hops = less(later, place.row);
+            line(b"r", &[place.row, later, range.ticks, hops], out, at)
+        }
+        Reached::Outside => at,
+        Reached::Refused(_) => at,
+    }
+}

@@ -1,0 +1,4 @@
+-- The laws of the definitions, each file over one of them.
+pub mod Near
+pub mod Row
+pub mod Code

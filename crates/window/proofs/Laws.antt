@@ -1,0 +1,2 @@
+-- The laws of the definitions, each file over one of them.
+pub mod Window
