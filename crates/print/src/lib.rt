@@ -21,7 +21,16 @@ pub fn run(from: i32, to: i32) -> Ended {
     let mut row = [0u64; 256];
     let mut tables = tables::space();
     tables::fill(&mut tables);
-    run_in(from, to, &tables, &mut input, &mut row, &mut output)
+    let mut links = row_fields::link_space();
+    run_in(
+        from,
+        to,
+        &tables,
+        &mut links,
+        &mut input,
+        &mut row,
+        &mut output,
+    )
 }
 
 // Steps until nothing is due.
@@ -29,17 +38,18 @@ fn run_in(
     from: i32,
     to: i32,
     tables: &[u64],
+    links: &mut [u64],
     input: &mut [u8],
     row: &mut [u64],
     output: &mut [u8],
 ) -> Ended
-    requires { ⌜ Tables (now tables) × (6710 ≤ length (now input)) × (256 ≤ length (now row)) × (step-room ≤ length (now output)) ⌝ }
+    requires { ⌜ Tables (now tables) × (770 ≤ length (now links)) × (6710 ≤ length (now input)) × (256 ≤ length (now row)) × (step-room ≤ length (now output)) ⌝ }
 {
     let mut state = State::start();
     while state.due() != 0 {
         match ready(from, to, state, input, output) {
             Turn::On(next) => {
-                state = advance(tables, next, input, row, output);
+                state = advance(tables, links, next, input, row, output);
             }
             Turn::Stop(ended) => {
                 return ended;
@@ -50,8 +60,15 @@ fn run_in(
 }
 
 // Takes the step of the due part, or of what is left where the input has ended.
-fn advance(tables: &[u64], state: State, input: &[u8], row: &mut [u64], output: &mut [u8]) -> State
-    requires { ⌜ Tables (now tables) × Between state (length (now input)) (length (now output)) × (256 ≤ length (now row)) × (state .text + step-room ≤ length (now output)) ⌝ }
+fn advance(
+    tables: &[u64],
+    links: &mut [u64],
+    state: State,
+    input: &[u8],
+    row: &mut [u64],
+    output: &mut [u8],
+) -> State
+    requires { ⌜ Tables (now tables) × (770 ≤ length (now links)) × Between state (length (now input)) (length (now output)) × (256 ≤ length (now row)) × (state .text + step-room ≤ length (now output)) ⌝ }
     ensures { λ r. ⌜ Advanced state (now (input .entry)) (now (row .entry)) (now (output .entry)) r (now (row .exit)) (now (output .exit)) ⌝ }
 {
     let wall = state.wall;
@@ -63,6 +80,7 @@ fn advance(tables: &[u64], state: State, input: &[u8], row: &mut [u64], output: 
     match show::step_by(
         wall,
         tables,
+        links,
         &input[start..stop],
         &mut row[..width],
         output,

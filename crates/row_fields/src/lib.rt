@@ -7,14 +7,19 @@ ghost use lib.ListN.{length};
 ghost use Rattle.contents.specs.Contents.{row-size};
 ghost use Rattle.row_fields.specs.Worked.{Plannable, Worked-out};
 
-// Works out the row that tags 3 and 4 describe, or answers its number.
-pub fn plan(settings: Settings, part: &[u8], before: &[u64], times: &mut [u64]) -> u32
-    requires { ⌜ Plannable settings (now part) (length (now before)) (length (now times)) ⌝ }
+// Works out the row that tags 3 and 4 describe, or answers its number. `links` is room for its link values.
+pub fn plan(
+    settings: Settings,
+    part: &[u8],
+    before: &[u64],
+    links: &mut [u64],
+    times: &mut [u64],
+) -> u32
+    requires { ⌜ Plannable settings (now part) (length (now before)) (length (now times)) × (770 ≤ length (now links)) ⌝ }
     ensures { λ r. ⌜ Worked-out settings (now (part .entry)) (now (before .entry)) (now (times .entry)) r (now (times .exit)) ⌝ }
 {
     let width = before.len();
     let mut drifts = drift_space();
-    let mut links = link_space();
     plan_in(
         settings,
         part,
@@ -70,7 +75,8 @@ fn drift_space() -> [u32; 256]
     [0; 256]
 }
 
-fn link_space() -> [u64; 770]
+// Room for the link values of any row.
+pub fn link_space() -> [u64; 770]
     ensures { λ r. ⌜ 770 ≡ length r ⌝ }
 {
     [0; 770]

@@ -34,19 +34,21 @@ pub fn step(wall: Wall, part: &[u8], row: &mut [u64], out: &mut [u8], at: usize)
 {
     let mut tables = tables::space();
     tables::fill(&mut tables);
-    step_by(wall, &tables, part, row, out, at)
+    let mut links = row_fields::link_space();
+    step_by(wall, &tables, &mut links, part, row, out, at)
 }
 
-// The same with tables that are made once for all steps.
+// The same with tables, and room for link values, that are made once for all steps.
 pub fn step_by(
     wall: Wall,
     tables: &[u64],
+    links: &mut [u64],
     part: &[u8],
     row: &mut [u64],
     out: &mut [u8],
     at: usize,
 ) -> Answer
-    requires { ⌜ Tables (now tables) ⌝ }
+    requires { ⌜ Tables (now tables) × (770 ≤ length (now links)) ⌝ }
     ensures { λ r. ⌜ Stepping wall (now (part .entry)) (now (row .entry)) (now (out .entry)) at r (now (row .exit)) (now (out .exit)) ⌝ }
 {
     if !has_room(out.len(), at) {
@@ -54,23 +56,24 @@ pub fn step_by(
     }
     let width = wall.width();
     let mut next = time_space();
-    step_in(wall, tables, part, &mut next[..width], row, out, at)
+    step_in(wall, tables, links, part, &mut next[..width], row, out, at)
 }
 
 // With room for the next row.
 fn step_in(
     wall: Wall,
     tables: &[u64],
+    links: &mut [u64],
     part: &[u8],
     next: &mut [u64],
     row: &mut [u64],
     out: &mut [u8],
     at: usize,
 ) -> Answer
-    requires { ⌜ Tables (now tables) × (length (now next) ≡ width-of wall) × (at + step-room ≤ length (now out)) ⌝ }
+    requires { ⌜ Tables (now tables) × (770 ≤ length (now links)) × (length (now next) ≡ width-of wall) × (at + step-room ≤ length (now out)) ⌝ }
     ensures { λ r. ⌜ Stepping wall (now (part .entry)) (now (row .entry)) (now (out .entry)) at r (now (row .exit)) (now (out .exit)) ⌝ }
 {
-    match wall.take(part, row, next) {
+    match wall.take_in(part, row, links, next) {
         Take::Took(took) => {
             let next_wall = took.wall;
             let end = show(tables, wall, took, part, next, row, out, at);

@@ -8,7 +8,8 @@ mod steps;
 use settings::Settings;
 ghost use mathlib.Core.Path.{_≡_};
 ghost use mathlib.Core.Bool.{cond};
-ghost use Prim.Native.Nat.{_+_, _≤_};
+ghost use Prim.Native.Nat.{_≤_};
+ghost use lib.ListN.{length};
 ghost use Rattle.steps.specs.Fit.{passes, due-of, width-of, place-fits, wall-fits};
 ghost use Rattle.steps.specs.Take.{Taking};
 
@@ -96,6 +97,15 @@ impl Wall {
     pub fn take(self, part: &[u8], row: &[u64], next: &mut [u64]) -> Take
         ensures { λ r. ⌜ Taking self (now (part .entry)) (now (row .entry)) (now (next .entry)) r (now (next .exit)) ⌝ }
     {
+        let mut links = row_fields::link_space();
+        self.take_in(part, row, &mut links, next)
+    }
+
+    // The same with room for link values that is made once for all steps.
+    pub fn take_in(self, part: &[u8], row: &[u64], links: &mut [u64], next: &mut [u64]) -> Take
+        requires { ⌜ 770 ≤ length (now links) ⌝ }
+        ensures { λ r. ⌜ Taking self (now (part .entry)) (now (row .entry)) (now (next .entry)) r (now (next .exit)) ⌝ }
+    {
         if !fits(self, row.len()) {
             return Take::Unfit;
         }
@@ -105,7 +115,7 @@ impl Wall {
         match self {
             Wall::New => Take::Took(steps::settings(part)),
             Wall::Start(place) => Take::Took(steps::start(place, part, next)),
-            Wall::Row(place) => Take::Took(row_step::row(place, part, row, next)),
+            Wall::Row(place) => Take::Took(row_step::row(place, part, row, links, next)),
             Wall::End(place) => Take::Took(steps::end(place, part)),
             Wall::Over => Take::Took(steps::went_on(self)),
         }

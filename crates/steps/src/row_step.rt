@@ -14,8 +14,8 @@ ghost use Rattle.steps.specs.Step.{row-step, after-row};
 ghost use Rattle.steps.specs.Fit.{place-fits};
 ghost use Rattle.steps.specs.Take.{took-of, row-left};
 
-pub fn row(place: Place, part: &[u8], row: &[u64], next: &mut [u64]) -> Took
-    requires { ⌜ (place-fits place (length (now row)) ≡ true) × (place-fits place (length (now next)) ≡ true) ⌝ }
+pub fn row(place: Place, part: &[u8], row: &[u64], links: &mut [u64], next: &mut [u64]) -> Took
+    requires { ⌜ (place-fits place (length (now row)) ≡ true) × (place-fits place (length (now next)) ≡ true) × (770 ≤ length (now links)) ⌝ }
     ensures took { λ r. ⌜ r ≡ took-of (row-step (place .settings) (place .row) (place .offset) (now (row .entry)) (now (part .entry))) ⌝ }
     ensures row { λ r. ⌜ now (next .exit) ≡ row-left (row-step (place .settings) (place .row) (place .offset) (now (row .entry)) (now (part .entry))) (now (next .entry)) ⌝ }
 {
@@ -26,7 +26,7 @@ pub fn row(place: Place, part: &[u8], row: &[u64], next: &mut [u64]) -> Took
         return refused(number, place.offset);
     }
     let settings = place.settings;
-    let number = plan(settings, part, row, next);
+    let number = plan(settings, part, row, links, next);
     if number != 0 {
         return refused(number, place.offset + (3 + marks as u64));
     }

@@ -9,6 +9,13 @@ use borrow.Author.Needs.{needs}
 use Rattle.print.proofs.advance.Statement.{statement}
 use Rattle.print.proofs.advance.Tie as tie
 
+-- the start of the function, from where the width is known
+abbrev start : tie.After-width → tie.Start
+start w = w .before .before .before .before .before .before .before .before .before
+
+wide : (w : tie.After-width) → w .width .result ≤ length (start w .args .row .now)
+wide w = omega (arith, w .width .ensures .1, start w .pre .3)
+
 due-requires : tie.Need-due-requires
 due-requires c κs = search needs
 
@@ -28,15 +35,13 @@ part-step-by-end : tie.Need-part-step-by-end
 part-step-by-end c = search needs
 
 slice-relend-prefix-step-by : tie.Need-slice-relend-prefix-step-by
-slice-relend-prefix-step-by c = search needs
+slice-relend-prefix-step-by c = wide (c .before .before)
 
 slice-aggregate-step-by : tie.Need-slice-aggregate-step-by
-slice-aggregate-step-by c =
-    let wide : c .before .before .width .result ≤ length (c .before .before .before .before .before .before .before .before .before .before .args .row .now) = omega arith in
-    sym (length-take-le _ _ wide)
+slice-aggregate-step-by c = sym (length-take-le _ _ (wide (c .before .before .before)))
 
 step-by-requires : tie.Need-step-by-requires
-step-by-requires c κs = search needs
+step-by-requires c κs = let s = start (c .before .before .before .before) in (s .pre .0, s .pre .1)
 
 enum-known-went : tie.Need-enum-known-went
 enum-known-went c = search needs
@@ -50,29 +55,35 @@ same-length c = search needs
 same-length-2 : tie.Need-same-length-2
 same-length-2 c = search needs
 
-returns : tie.Need-returns
-returns c =
-    let args = c .before .before .before .before .before .before .before .before .before .before .before .before .before .before .before .before .before .before .before .args in
-    let pre = c .before .before .before .before .before .before .before .before .before .before .before .before .before .before .before .before .before .before .before .pre in
-    let wide : c .before .before .before .before .before .before .before .before .before .before .before .width .result ≤ length (args .row .now) = omega arith in
-    advanced (args .state) (args .input .now) (args .row .now) (args .output .now) (pre .1) (pre .3) _ _ _
-    (c .before .before .before .before .before .before .before .before .before .before .before .before .before .due .ensures .0) (c .before .before .before .before .before .before .before .before .before .before .before .before .part-end .ensures) (c .before .before .before .before .before .before .before .before .before .before .before .width .ensures .0) wide
-    _ _ _ _ (c .before .before .before .before .before .before .before .step-by .ensures) (c .before .went .given .1) (search needs)
-
 same-length-3 : tie.Need-same-length-3
 same-length-3 c = search needs
+
+returns : tie.Need-returns
+returns c =
+    let f = c .before .before .before .before .before .before .before .before .before in
+    let w = f .before .before .before .before .before in
+    let s = start w in
+    advanced (s .args .state) (s .args .input .now) (s .args .row .now) (s .args .output .now) (s .pre .2) (s .pre .4) _ _ _
+    (w .before .before .due .ensures .0) (w .before .part-end .ensures) (w .width .ensures .0) (wide w)
+    _ _ _ _ (f .step-by .ensures) (c .before .went .given .1) (search needs)
 
 same-length-4 : tie.Need-same-length-4
 same-length-4 c = search needs
 
+same-length-5 : tie.Need-same-length-5
+same-length-5 c = search needs
+
+same-length-6 : tie.Need-same-length-6
+same-length-6 c = search needs
+
 returns-2 : tie.Need-returns-2
 returns-2 c =
-    let args = c .before .before .before .before .before .before .before .before .before .before .before .before .before .before .before .before .before .before .args in
-    let pre = c .before .before .before .before .before .before .before .before .before .before .before .before .before .before .before .before .before .before .pre in
-    let wide : c .before .before .before .before .before .before .before .before .before .before .width .result ≤ length (args .row .now) = omega arith in
-    absurd (never-unfit (args .state) (args .input .now) (args .row .now) (args .output .now) (pre .1) (pre .3) _ _ _
-    (c .before .before .before .before .before .before .before .before .before .before .before .before .due .ensures .0) (c .before .before .before .before .before .before .before .before .before .before .before .part-end .ensures) (c .before .before .before .before .before .before .before .before .before .before .width .ensures .0) wide
-    _ _ _ (c .before .before .before .before .before .before .step-by .ensures) (c .enum-told .given .1))
+    let f = c .before .before .before .before .before .before .before .before in
+    let w = f .before .before .before .before .before in
+    let s = start w in
+    absurd (never-unfit (s .args .state) (s .args .input .now) (s .args .row .now) (s .args .output .now) (s .pre .2) (s .pre .4) _ _ _
+    (w .before .before .due .ensures .0) (w .before .part-end .ensures) (w .width .ensures .0) (wide w)
+    _ _ _ (f .step-by .ensures) (c .enum-told .given .1))
 
 pub advance-spec : {M : Type 1} → statement M
 advance-spec =
@@ -91,7 +102,9 @@ advance-spec =
     enum-told
     same-length
     same-length-2
-    returns
     same-length-3
+    returns
     same-length-4
+    same-length-5
+    same-length-6
     returns-2)

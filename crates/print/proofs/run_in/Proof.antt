@@ -1,6 +1,7 @@
 -- `run_in` is safe and ends. The loop's invariant: the wall is one that steps leave, and the window and the text lie in their buffers.
 -- The measure is how many steps are left. Assumes nothing.
 use mathlib.Core.Path.{_≡_, refl, sym, _∙_}
+use Prim.Native.Nat.{_≤_}
 use native.Mathlib.Omega.{arith}
 use borrow.Author.Needs.{needs}
 use lib.ListN.{length}
@@ -14,48 +15,57 @@ use Rattle.print.proofs.run_in.Statement.{statement}
 use Rattle.print.proofs.run_in.Tie as tie
 
 abbrev Inv-loop : tie.InvT-loop
-Inv-loop from to tables input₀ row₀ output₀ state₀ input row output state =
-    (length input ≡ length input₀) × (length row ≡ length row₀) × (length output ≡ length output₀) × Between state (length input) (length output)
+Inv-loop from to tables links₀ input₀ row₀ output₀ state₀ links input row output state =
+    (length links ≡ length links₀) × (length input ≡ length input₀) × (length row ≡ length row₀) × (length output ≡ length output₀) × Between state (length input) (length output)
 
 abbrev μ-loop : tie.MeasureT-loop
-μ-loop from to tables input₀ row₀ output₀ state₀ input row output state = steps-left (state .wall)
+μ-loop from to tables links₀ input₀ row₀ output₀ state₀ links input row output state = steps-left (state .wall)
 
 start-requires : tie.Need-start-requires Inv-loop μ-loop
 start-requires c κs = search needs
 
 loop-holds : tie.Need-loop-holds Inv-loop μ-loop
-loop-holds c = (refl, refl, refl, starts-between _ _ _ (c .start .ensures))
+loop-holds c = (refl, refl, refl, refl, starts-between _ _ _ (c .start .ensures))
 
 due-requires : tie.Need-due-requires Inv-loop μ-loop
 due-requires c κs = search needs
 
 ready-requires : tie.Need-ready-requires Inv-loop μ-loop
-ready-requires c κs = let at = c .before .before .before .before .loop in (at .inv .3, omega arith, omega arith)
+ready-requires c κs = let at = c .before .before .before .before .loop in (at .inv .4, omega arith, omega arith)
 
 enum-known-next : tie.Need-enum-known-next Inv-loop μ-loop
 enum-known-next c = search needs
 
 advance-requires : tie.Need-advance-requires Inv-loop μ-loop
 advance-requires c κs =
-    let at = c .before .before .before .before .before .before .before .before .before .before .before .before .before .loop in
-    let made = ready-on _ _ _ _ _ _ (c .before .before .before .before .next .given .1) (c .before .before .before .before .before .before .before .before .ready .ensures) in
-    (search needs, ready-between (at .state) (at .input) (length (at .output)) _ _ (at .inv .3) made, omega arith, made .room)
+    let m = c .before .before .before .before .before in
+    let r = m .before .before .before .before in
+    let at = r .before .before .before .before .before .loop in
+    let made = ready-on _ _ _ _ _ _ (m .next .given .1) (r .ready .ensures) in
+    let s = r .before .before .before .before .before .before .before .before .before .before .before .before in
+    let links : 770 ≤ length (at .links) = omega (arith, at .inv .0, s .pre .1) in
+    let row : 256 ≤ length (at .row) = omega (arith, at .inv .2, s .pre .3) in
+    (s .pre .0, links, ready-between (at .state) (at .input) (length (at .output)) _ _ (at .inv .4) made, row, made .room)
 
 loop-less : tie.Need-loop-less Inv-loop μ-loop
 loop-less c =
-    let at = c .before .before .before .before .before .before .before .before .before .before .before .before .before .before .before .before .before .before .loop in
-    let some : due-of (at .state .wall) ≡ 0 → ⊥ = λ e. c .before .before .before .before .before .before .before .before .before .before .before .before .before .before .before .before .if1 .taken (c .before .before .before .before .before .before .before .before .before .before .before .before .before .before .before .before .before .due .ensures .0 ∙ e) in
-    let made = ready-on _ _ _ _ _ _ (c .before .before .before .before .before .before .before .before .before .next .given .1) (c .before .before .before .before .before .before .before .before .before .before .before .before .before .ready .ensures) in
-    let went = c .before .before .before .before .advance .ensures in
-    turn-ahead (at .state) (at .input) (length (at .output)) _ _ (at .row) (at .output) _ _ _ (at .inv .3) some made refl went .less
+    let a = c .before .before .before .before .before .before in
+    let m = a .before .before .before .before .before .before in
+    let r = m .before .before .before .before in
+    let at = r .before .before .before .before .before .loop in
+    let some : due-of (at .state .wall) ≡ 0 → ⊥ = λ e. r .before .before .before .if1 .taken (r .before .before .before .before .due .ensures .0 ∙ e) in
+    let made = ready-on _ _ _ _ _ _ (m .next .given .1) (r .ready .ensures) in
+    turn-ahead (at .state) (at .input) (length (at .output)) _ _ (at .row) (at .output) _ _ _ (at .inv .4) some made refl (a .advance .ensures) .less
 
 loop-again : tie.Need-loop-again Inv-loop μ-loop
 loop-again c =
-    let at = c .before .before .before .before .before .before .before .before .before .before .before .before .before .before .before .before .before .before .loop in
-    let some : due-of (at .state .wall) ≡ 0 → ⊥ = λ e. c .before .before .before .before .before .before .before .before .before .before .before .before .before .before .before .before .if1 .taken (c .before .before .before .before .before .before .before .before .before .before .before .before .before .before .before .before .before .due .ensures .0 ∙ e) in
-    let made = ready-on _ _ _ _ _ _ (c .before .before .before .before .before .before .before .before .before .next .given .1) (c .before .before .before .before .before .before .before .before .before .before .before .before .before .ready .ensures) in
-    let went = c .before .before .before .before .advance .ensures in
-    (omega arith, omega arith, omega arith, turn-between (at .state) (at .input) (length (at .output)) _ _ (at .row) (at .output) _ _ _ (at .inv .3) some made refl went)
+    let a = c .before .before .before .before .before .before in
+    let m = a .before .before .before .before .before .before in
+    let r = m .before .before .before .before in
+    let at = r .before .before .before .before .before .loop in
+    let some : due-of (at .state .wall) ≡ 0 → ⊥ = λ e. r .before .before .before .if1 .taken (r .before .before .before .before .due .ensures .0 ∙ e) in
+    let made = ready-on _ _ _ _ _ _ (m .next .given .1) (r .ready .ensures) in
+    (omega arith, omega arith, omega arith, omega arith, turn-between (at .state) (at .input) (length (at .output)) _ _ (at .row) (at .output) _ _ _ (at .inv .4) some made refl (a .advance .ensures))
 
 enum-known-ended : tie.Need-enum-known-ended Inv-loop μ-loop
 enum-known-ended c = search needs
@@ -69,6 +79,9 @@ same-length-2 c = search needs
 same-length-3 : tie.Need-same-length-3 Inv-loop μ-loop
 same-length-3 c = search needs
 
+same-length-4 : tie.Need-same-length-4 Inv-loop μ-loop
+same-length-4 c = search needs
+
 returns : tie.Need-returns Inv-loop μ-loop
 returns c = search needs
 
@@ -76,16 +89,19 @@ finish-requires : tie.Need-finish-requires Inv-loop μ-loop
 finish-requires c κs =
     let at = c .before .before .before .loop in
     let none : due-of (at .state .wall) ≡ 0 = sym (c .before .before .due .ensures .0) ∙ c .before .if1 .left in
-    (none-due (at .state .wall) (at .inv .3 .stands) none, at .inv .3 .text)
-
-same-length-4 : tie.Need-same-length-4 Inv-loop μ-loop
-same-length-4 c = search needs
+    (none-due (at .state .wall) (at .inv .4 .stands) none, at .inv .4 .text)
 
 same-length-5 : tie.Need-same-length-5 Inv-loop μ-loop
 same-length-5 c = search needs
 
 same-length-6 : tie.Need-same-length-6 Inv-loop μ-loop
 same-length-6 c = search needs
+
+same-length-7 : tie.Need-same-length-7 Inv-loop μ-loop
+same-length-7 c = search needs
+
+same-length-8 : tie.Need-same-length-8 Inv-loop μ-loop
+same-length-8 c = search needs
 
 returns-2 : tie.Need-returns-2 Inv-loop μ-loop
 returns-2 c = search needs
@@ -108,9 +124,11 @@ run-in-spec =
     same-length
     same-length-2
     same-length-3
+    same-length-4
     returns
     finish-requires
-    same-length-4
     same-length-5
     same-length-6
+    same-length-7
+    same-length-8
     returns-2)

@@ -1,4 +1,4 @@
--- `Wall::step_by` meets its contract. Assumes nothing.
+-- `step_by` meets its contract. Assumes nothing.
 use mathlib.Core.Path.{_≡_, sym, _∙_}
 use lib.ListN.{length, take}
 use lib.Seq.{length-take-le}
@@ -20,7 +20,7 @@ has-room-requires c κs = search needs
 returns : tie.Need-returns
 unfolding fits
 returns c =
-    let a = c .before .before .before .before .before .before .args in
+    let a = c .before .before .before .before .before .before .before .args in
     unfit (a .wall) (a .part .now) (a .row .now) (a .out .now) (a .at) (rw (sym (c .before .has-room .ensures) ∙ not-true _ (c .if1 .taken)))
 
 width-requires : tie.Need-width-requires
@@ -33,21 +33,24 @@ array-borrow-prefix-next : tie.Need-array-borrow-prefix-next
 array-borrow-prefix-next c = search needs
 
 slice-aggregate-step-in : tie.Need-slice-aggregate-step-in
-slice-aggregate-step-in c = sym (long (c .before))
+slice-aggregate-step-in c = sym (long (c .before .before))
 
 step-in-requires : tie.Need-step-in-requires
 step-in-requires c κs =
-    let t = c .before .before .before in
+    let t = c .before .before .before .before in
     let w = t .before in
     let e = w .before in
-    let s = e .before .before .before .before .before .before in
-    (s .pre, long t ∙ w .width .ensures .0, leb-true _ _ (sym (e .before .has-room .ensures) ∙ not-false _ (e .if1 .left)))
+    let s = e .before .before .before .before .before .before .before in
+    (s .pre .0, s .pre .1, long t ∙ w .width .ensures .0, leb-true _ _ (sym (e .before .has-room .ensures) ∙ not-false _ (e .if1 .left)))
 
 same-length : tie.Need-same-length
 same-length c = search needs
 
 same-length-2 : tie.Need-same-length-2
 same-length-2 c = search needs
+
+same-length-3 : tie.Need-same-length-3
+same-length-3 c = search needs
 
 returns-2 : tie.Need-returns-2
 returns-2 c = search needs
@@ -65,4 +68,5 @@ step-by-spec =
     step-in-requires
     same-length
     same-length-2
+    same-length-3
     returns-2)

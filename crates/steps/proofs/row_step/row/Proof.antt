@@ -21,7 +21,7 @@ use Rattle.steps.proofs.row_step.row.Tie as tie
 
 -- the start of the function, from the number of the marks' field
 abbrev start : tie.After-refusal → tie.Start
-start c = c .before .before .before .before
+start c = c .before .before .before .before .before
 
 fit : (s : tie.Start) → Fit (s .args .place) (length (s .args .row .now))
 fit s = fit-of (s .args .place) (length (s .args .row .now)) (s .pre .0)
@@ -62,16 +62,16 @@ returns c =
 
 plan-requires : tie.Need-plan-requires
 plan-requires c κs =
-    let e = c .before .before in
+    let e = c .before .before .before in
     let s = start (e .before) in
-    record { pass = fit s .pass; marks-there = there e; before-long = fit s .long; times-long = fit-of _ _ (s .pre .1) .long }
+    (record { pass = fit s .pass; marks-there = there e; before-long = fit s .long; times-long = fit-of _ _ (s .pre .1) .long }, s .pre .2)
 
 add-refused : tie.Need-add-refused
 add-refused c = search needs
 
 add-refused-2 : tie.Need-add-refused-2
 add-refused-2 c =
-    let s = start (c .before .before .before .before .before .before .before .before) in
+    let s = start (c .before .before .before .before .before .before .before .before .before .before .before) in
     omega (arith, fit s .offset, narrow s)
 
 refused-requires-2 : tie.Need-refused-requires-2
@@ -80,12 +80,15 @@ refused-requires-2 c κs = search needs
 same-length : tie.Need-same-length
 same-length c = search needs
 
+same-length-2 : tie.Need-same-length-2
+same-length-2 c = search needs
+
 returns-2 : tie.Need-returns-2
 unfolding marks-field mark-bytes
 returns-2 c =
     let t = c .before .before in
-    let p = t .before .before .before in
-    let b = p .before .before .before in
+    let p = t .before .before .before .before .before in
+    let b = p .before .before .before .before in
     let s = start (b .before) in
     let a = s .args in
     let n = p .plan .result in
@@ -97,27 +100,30 @@ returns-2 c =
     )
 
 size-requires : tie.Need-size-requires
-size-requires c κs = narrow (start (c .before .before .before .before .before .before .before))
+size-requires c κs = narrow (start (c .before .before .before .before .before .before .before .before .before .before))
 
 after-requires : tie.Need-after-requires
 after-requires c κs =
-    let s = start (c .before .before .before .before .before .before .before .before) in
+    let s = start (c .before .before .before .before .before .before .before .before .before .before .before) in
     let k = limits (s .args .place .settings) (fit s .pass) in
     (omega (arith, fit s .row, k .rows), omega (arith, fit s .offset, c .size .ensures, row-small (length (s .args .row .now)) (narrow s)))
 
 went-on-requires : tie.Need-went-on-requires
 went-on-requires c κs = search needs
 
-same-length-2 : tie.Need-same-length-2
-same-length-2 c = search needs
+same-length-3 : tie.Need-same-length-3
+same-length-3 c = search needs
+
+same-length-4 : tie.Need-same-length-4
+same-length-4 c = search needs
 
 returns-3 : tie.Need-returns-3
 returns-3 c =
     let f = c .before in
     let z = f .before in
     let t = z .before in
-    let p = t .before .before .before in
-    let b = p .before .before .before in
+    let p = t .before .before .before .before .before in
+    let b = p .before .before .before .before in
     let s = start (b .before) in
     let a = s .args in
     let k = a .place .settings in
@@ -145,9 +151,11 @@ row-spec =
     add-refused-2
     refused-requires-2
     same-length
+    same-length-2
     returns-2
     size-requires
     after-requires
     went-on-requires
-    same-length-2
+    same-length-3
+    same-length-4
     returns-3)

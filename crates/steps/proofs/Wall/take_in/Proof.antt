@@ -1,4 +1,4 @@
--- `Wall::take` meets its contract. Assumes nothing.
+-- `Wall::take_in` meets its contract. Assumes nothing.
 use mathlib.Core.Path.{_≡_, refl, sym, _∙_, ap}
 use mathlib.Core.Bool.{true}
 use borrow.Author.Tests.{not-true, not-false}
@@ -11,12 +11,12 @@ use Rattle.steps.specs.declared.Wall.{Wall}
 use Rattle.steps.specs.declared.Wall.the-variants.{New, Over}
 use Rattle.steps.proofs.Laws.Taken.{unfit, taking}
 use borrow.Author.Needs.{needs}
-use Rattle.steps.proofs.Wall.take.Statement.{statement}
-use Rattle.steps.proofs.Wall.take.Tie as tie
+use Rattle.steps.proofs.Wall.take_in.Statement.{statement}
+use Rattle.steps.proofs.Wall.take_in.Tie as tie
 
 -- the start of the function, from the first row's length
 abbrev start : tie.After-fits2 → tie.Start
-start c = c .before .before .before .before
+start c = c .before .before .before .before .before
 
 row-fits : (c : tie.Else1) → let a = start (c .before) .args in wall-fits (a .self) (length (a .row .now)) ≡ true
 row-fits c = sym (c .before .fits2 .ensures) ∙ not-false _ (c .if1 .left)
@@ -69,11 +69,13 @@ enum-known-self-2 c = search needs
 row-requires : tie.Need-row-requires
 unfolding wall-fits
 row-requires c κs =
-    let w = c .before .before in
+    let w = c .before .before .before in
     let e = w .before .before in
-    let a = start (e .before .before .before) .args in (
+    let s = start (e .before .before .before) in
+    let a = s .args in (
       sym (ap (λ (x : Wall). wall-fits x (length (a .row .now))) (w .self2 .given .1)) ∙ row-fits (e .before .before),
       sym (ap (λ (x : Wall). wall-fits x (length (a .next .now))) (w .self2 .given .1)) ∙ next-fits e,
+      s .pre,
     )
 
 enum-known-self-3 : tie.Need-enum-known-self-3
@@ -111,11 +113,14 @@ returns-4 c =
 same-length-2 : tie.Need-same-length-2
 same-length-2 c = search needs
 
+same-length-3 : tie.Need-same-length-3
+same-length-3 c = search needs
+
 returns-5 : tie.Need-returns-5
 unfolding step-of next-row
 returns-5 c =
-    let f = c .before .before in
-    let w = f .before .before .before in
+    let f = c .before .before .before .before in
+    let w = f .before .before .before .before in
     let e = w .before .before in
     let a = start (e .before .before .before) .args in
     taking (a .self) (a .part .now) (a .row .now) (a .next .now) _ (w .self2 .given .1) (both e) (f .row .ensures .0) (f .row .ensures .1)
@@ -137,8 +142,8 @@ returns-7 c =
     taking (a .self) (a .part .now) (a .row .now) (a .next .now) Over (t .enum-told2 .given .1) (both e)
     (c .went-on .ensures ∙ rw (t .enum-told2 .given .1)) refl
 
-pub take-spec : {M : Type 1} → statement M
-take-spec =
+pub take-in-spec : {M : Type 1} → statement M
+take-in-spec =
     tie.close
     (tie.spec
     fits-requires
@@ -159,6 +164,7 @@ take-spec =
     same-length
     returns-4
     same-length-2
+    same-length-3
     returns-5
     returns-6
     returns-7)
