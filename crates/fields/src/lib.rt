@@ -1,7 +1,7 @@
 // A field of a wall file: a one-byte tag, a two-byte length, a body.
 pub mod bytes;
 
-use bytes::two;
+use crate::bytes::two;
 ghost use mathlib.Core.Path.{_≡_};
 ghost use Rattle.fields.specs.Field.{field-refusal, body};
 

@@ -18,7 +18,7 @@ use Rattle.reach.specs.declared.Reached.{Reached}
 use Rattle.reach.specs.declared.Reached.the-variants as reached
 use Rattle.steps.specs.declared.Take.{Take}
 use Rattle.steps.specs.declared.Take.the-variants as take
-use Rattle.polzaintu.specs.Words.{side-word, place-in, wall-words}
+use Rattle.layout.specs.Words.{side-word, place-in, wall-words}
 
 -- the number of what is unfit and has no number in 01
 abbrev pub unfit : ℕ

@@ -1,13 +1,11 @@
 // The operations for C and for Rust, as bindings/c/polzaintu.h declares them. A struct of the header is an
 // array of words here. The answer is the refusal's number, or 0; what is lent to be written then holds what
 // it held.
-mod words;
-
-use crate::words::place_in;
-use crate::words::settings_in;
-use crate::words::stamps_in;
-use crate::words::wall_in;
-use crate::words::wall_words;
+use layout::place_in;
+use layout::settings_in;
+use layout::stamps_in;
+use layout::wall_in;
+use layout::wall_words;
 use reach::Gap;
 use reach::Reached;
 use row::Planned;
@@ -24,7 +22,7 @@ ghost use Rattle.seam.specs.Seam.{seam-of, number-of as Seam·number-of};
 ghost use Rattle.reach.specs.Search.{gap-of, reach-of};
 ghost use Rattle.steps.specs.Fit.{due-of, width-of};
 ghost use Rattle.steps.specs.Take.{take-of, row-after};
-ghost use Rattle.polzaintu.specs.Words.{settings-from, stamps-in, wall-in};
+ghost use Rattle.layout.specs.Words.{settings-from, stamps-in, wall-in};
 ghost use Rattle.polzaintu.specs.Answers.{forwarded-left, ends-left, side-left, halves-left, gap-number, gap-left, reach-number, reach-left, step-number, wall-left, offset-left};
 
 // The number of what does not fit and has no number of its own.
@@ -103,7 +101,7 @@ pub extern "C" fn polzaintu_seam(
             0
         }
         Seam::Open(open) => {
-            *side = words::side(open);
+            *side = layout::side(open);
             0
         }
         Seam::Refused(number) => number,

@@ -8,18 +8,18 @@ use lib.ListN.{length, take, drop}
 use lib.Seq.{take-at, length-take-le}
 use Rattle.steps.specs.Step.{Stepped, step-of}
 use Rattle.steps.specs.Fit.{due-of, width-of}
-use Rattle.show.specs.Operation.{fits, went-to, Stepping}
+use Rattle.wall.specs.Operation.{fits, went-to, Stepping}
 use Rattle.lines.specs.Row.{step-room}
-use Rattle.show.specs.declared.Went.{Went}
-use Rattle.show.specs.declared.Answer.{Answer}
-use Rattle.show.specs.declared.Answer.the-variants as step
-use Rattle.show.proofs.Laws.Fit.{by-wall}
+use Rattle.wall.specs.declared.Went.{Went}
+use Rattle.wall.specs.declared.Answer.{Answer}
+use Rattle.wall.specs.declared.Answer.the-variants as step
+use Rattle.wall.proofs.Laws.Fit.{by-wall}
 use Rattle.window.specs.Window.{bytes-in}
-use Rattle.wall.specs.Stands.{steps-left}
+use Rattle.file.specs.Stands.{steps-left}
 use Rattle.stream.specs.State.{Between, Made-ready}
 use Rattle.print.specs.Advanced.{taken-step, Advanced}
 use Rattle.stream.specs.declared.State.{State}
-use Rattle.wall.proofs.Laws.Stands.{Ahead, step-ahead, stands-fits}
+use Rattle.file.proofs.Laws.Stands.{Ahead, step-ahead, stands-fits}
 use Rattle.stream.proofs.Laws.State.{left, left-within, part-taken, rest-left, wrote-within}
 
 -- a step that is taken: `part` is what is handed to it, `lent` the wall's row

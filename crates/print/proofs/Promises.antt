@@ -11,16 +11,16 @@ use Rattle.steps.specs.Shown.{Shown}
 use Rattle.steps.specs.Number.{settings-number, start-number, row-number}
 use Rattle.steps.specs.Step.{due-size, stepped, away, settings-step, start-step, step-of, steps-shown}
 use Rattle.steps.specs.Fit.{due-of, width-of}
-use Rattle.wall.specs.Promises.{Steps-right}
+use Rattle.file.specs.Promises.{Steps-right}
 use Rattle.steps.specs.declared.Place.{Place}
 use Rattle.steps.specs.declared.Wall.{Wall}
 use Rattle.steps.specs.declared.Wall.the-variants.{New, Start, Row, End, Over}
-use Rattle.wall.proofs.Promises.{steps-right}
+use Rattle.file.proofs.Promises.{steps-right}
 use Rattle.window.specs.Window.{bytes-in}
-use Rattle.wall.specs.Stands.{Stands}
+use Rattle.file.specs.Stands.{Stands}
 use Rattle.print.specs.Advanced.{taken-step}
 use Rattle.print.specs.Promises.{taken, Runs, over, reads, steps, Run-right, Turn-right}
-use Rattle.wall.proofs.Laws.Stands.{step-stands, due-right}
+use Rattle.file.proofs.Laws.Stands.{step-stands, due-right}
 use Rattle.stream.proofs.Laws.Held.{Kept, kept-start, kept-row, kept-end, kept-over, held-part, enough-held}
 
 -- once the file is over, nothing more is shown

@@ -6,7 +6,7 @@ use mathlib.Core.List.{List, [], _++_}
 use Prim.Native.Nat.{ℕ, _-_, _<_}
 use lib.ListN.{length, take, drop}
 use Rattle.steps.specs.Shown.{Shown}
-use Rattle.wall.specs.File.{shown}
+use Rattle.file.specs.File.{shown}
 use Rattle.steps.specs.Step.{Stepped, step-of}
 use Rattle.steps.specs.Fit.{due-of, width-of}
 use Rattle.steps.specs.declared.Wall.{Wall}

@@ -1,11 +1,11 @@
 // A wall file's lines, from one file descriptor to another. The part of the file that is due is read, its step
 // is taken, and the text of what is then shown is written.
-use show::Answer;
 use stream::Ended;
 use stream::State;
 use stream::Turn;
 use stream::finish;
 use stream::ready;
+use wall::Answer;
 use window::Window;
 ghost use Prim.Native.Nat.{_+_, _≤_};
 ghost use lib.ListN.{length};
@@ -77,7 +77,7 @@ fn advance(
     let start = window.start;
     let stop = window.part_end(wall.due());
     let width = wall.width();
-    match show::step_by(
+    match wall::step_by(
         wall,
         tables,
         links,

@@ -1,8 +1,8 @@
 // One row of pulses, worked out from the row before it.
 mod progress;
 
-use progress::Progress;
-use progress::further;
+use crate::progress::Progress;
+use crate::progress::further;
 use settings::Settings;
 ghost use mathlib.Core.Path.{_≡_};
 ghost use lib.ListN.{length};

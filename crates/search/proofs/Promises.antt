@@ -9,16 +9,16 @@ use lib.ListN.{length, take, drop, take-append-drop}
 use native.Mathlib.Omega.{arith}
 use borrow.Author.Tests.{eq-eqb}
 use Rattle.steps.specs.Number.{settings-number, start-number, row-number}
-use Rattle.wall.specs.Limits.{settings-of, after-settings, start-of, after-start, calls-of, rows-of}
+use Rattle.file.specs.Limits.{settings-of, after-settings, start-of, after-start, calls-of, rows-of}
 use Rattle.steps.specs.Fit.{due-of, width-of}
-use Rattle.wall.specs.Stands.{Stands}
+use Rattle.file.specs.Stands.{Stands}
 use Rattle.steps.specs.Step.{Stepped, due-size, stepped, away, settings-step, step-of}
 use Rattle.steps.specs.Take.{row-left, next-row}
 use Rattle.steps.specs.declared.Wall.{Wall}
 use Rattle.steps.specs.declared.Wall.the-variants.{New, Start, Row, End, Over}
-use Rattle.wall.proofs.Promises.{start-at, rows-place, settings-accepted, start-accepted, first-row, few-rows}
-use Rattle.wall.proofs.Laws.Stands.{due-right}
-use Rattle.wall.proofs.Laws.Steps.{part-enough}
+use Rattle.file.proofs.Promises.{start-at, rows-place, settings-accepted, start-accepted, first-row, few-rows}
+use Rattle.file.proofs.Laws.Stands.{due-right}
+use Rattle.file.proofs.Laws.Steps.{part-enough}
 use Rattle.window.specs.Window.{bytes-in}
 use Rattle.stream.proofs.Laws.Held.{Kept, kept-start, kept-row, kept-end, kept-over, held-part, enough-held}
 use Rattle.search.specs.File.{start-told, file-told, search-text}

@@ -10,7 +10,7 @@ use Rattle.columns.specs.Marks.{marked}
 use Rattle.runs.specs.Run.{call-at}
 use Rattle.runs.specs.Reach.{widest-gap}
 use Rattle.reach.specs.Survey.{largest-of}
-use Rattle.wall.specs.Limits.{settings-of, start-of, calls-of, rows-of, Keeps}
+use Rattle.file.specs.Limits.{settings-of, start-of, calls-of, rows-of, Keeps}
 use Rattle.steps.specs.Fit.{due-of, width-of}
 use Rattle.steps.specs.Take.{next-row}
 use Rattle.steps.specs.declared.Wall.{Wall}

@@ -14,7 +14,7 @@ ghost use Prim.Native.Nat.{_+_, _≤_};
 ghost use lib.ListN.{length, take};
 ghost use Rattle.steps.specs.Fit.{width-of};
 ghost use Rattle.lines.specs.Row.{step-room};
-ghost use Rattle.wall.specs.Stands.{Stands};
+ghost use Rattle.file.specs.Stands.{Stands};
 ghost use Rattle.stream.specs.State.{Between};
 ghost use Rattle.search.specs.Moved.{Went-on, Moved};
 

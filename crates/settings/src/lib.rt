@@ -1,7 +1,7 @@
 // A wall's settings. `Settings::new` hands a record out only where it keeps every limit.
 pub mod rounding;
 
-use rounding::up;
+use crate::rounding::up;
 ghost use mathlib.Core.Path.{_≡_};
 ghost use Prim.Native.Nat.{_≤_};
 ghost use Rattle.settings.specs.Refusal.{outside};

@@ -1,103 +1,83 @@
-// A step of a wall file with its text: the lines of the row that is then shown, or of a refusal. `step` is an
-// operation: it answers every input.
-mod shown;
-
-use lines::ROOM;
-use shown::show;
-use steps::Take;
+// The text of a step: the line of a refusal, or the lines of the row that is then shown.
+use steps::Place;
+use steps::Took;
 use steps::Wall;
+use steps::rows::copy;
 ghost use mathlib.Core.Path.{_≡_};
+ghost use mathlib.Core.Bool.{true};
 ghost use Prim.Native.Nat.{_+_, _≤_};
-ghost use lib.Dec.{leb};
 ghost use lib.ListN.{length};
+ghost use Rattle.columns.specs.Marks.{mark-bytes};
 ghost use Rattle.tables.specs.Word.{Tables};
-ghost use Rattle.steps.specs.Fit.{width-of};
+ghost use Rattle.lines.specs.Wrote.{Wrote};
+ghost use Rattle.steps.specs.Shown.{row-shown, no-marks};
+ghost use Rattle.show.specs.Text.{texts-of};
+ghost use Rattle.steps.specs.Step.{step-of};
+ghost use Rattle.steps.specs.Fit.{place-fits, wall-fits};
 ghost use Rattle.lines.specs.Row.{step-room};
-ghost use Rattle.show.specs.Operation.{Stepping};
+ghost use Rattle.steps.specs.Take.{took-of, Next-row};
 
-// The wall as a step leaves it, and where the text ends.
-pub struct Went {
-    pub wall: Wall,
-    pub end: usize,
-}
-
-pub enum Answer {
-    Went(Went),
-    // What was lent does not fit the wall; nothing has changed.
-    Unfit,
-}
-
-// Takes the part of the file that is due. The row is the wall's, W times, and the next takes its
-// place; the text goes into `out` from `at` on.
-pub fn step(wall: Wall, part: &[u8], row: &mut [u64], out: &mut [u8], at: usize) -> Answer
-    ensures { λ r. ⌜ Stepping wall (now (part .entry)) (now (row .entry)) (now (out .entry)) at r (now (row .exit)) (now (out .exit)) ⌝ }
-{
-    let mut tables = tables::space();
-    tables::fill(&mut tables);
-    let mut links = row_fields::link_space();
-    step_by(wall, &tables, &mut links, part, row, out, at)
-}
-
-// The same with tables, and room for link values, that are made once for all steps.
-pub fn step_by(
-    wall: Wall,
+// Writes the text of a step that was taken, and its row in the place of the last; answers where the text ends.
+pub fn show(
     tables: &[u64],
-    links: &mut [u64],
+    wall: Wall,
+    took: Took,
     part: &[u8],
+    next: &[u64],
     row: &mut [u64],
     out: &mut [u8],
     at: usize,
-) -> Answer
-    requires { ⌜ Tables (now tables) × (770 ≤ length (now links)) ⌝ }
-    ensures { λ r. ⌜ Stepping wall (now (part .entry)) (now (row .entry)) (now (out .entry)) at r (now (row .exit)) (now (out .exit)) ⌝ }
+) -> usize
+    requires { ⌜ Tables (now tables) × (wall-fits wall (length (now row)) ≡ true) × (at + step-room ≤ length (now out)) ⌝ }
+    requires { ⌜ (took ≡ took-of (step-of wall (now row) (now part))) × Next-row wall (now row) (now part) (now next) ⌝ }
+    ensures text { λ r. ⌜ Wrote (now (out .entry)) at (texts-of (step-of wall (now (row .entry)) (now (part .entry)) .shows)) (now (out .exit)) r ⌝ }
+    ensures row { λ r. ⌜ now (row .exit) ≡ step-of wall (now (row .entry)) (now (part .entry)) .row ⌝ }
 {
-    if !has_room(out.len(), at) {
-        return Answer::Unfit;
+    let number = took.number;
+    if number != 0 {
+        return lines::refused_line(number as u64, took.offset, out, at);
     }
-    let width = wall.width();
-    let mut next = time_space();
-    step_in(wall, tables, links, part, &mut next[..width], row, out, at)
-}
-
-// With room for the next row.
-fn step_in(
-    wall: Wall,
-    tables: &[u64],
-    links: &mut [u64],
-    part: &[u8],
-    next: &mut [u64],
-    row: &mut [u64],
-    out: &mut [u8],
-    at: usize,
-) -> Answer
-    requires { ⌜ Tables (now tables) × (770 ≤ length (now links)) × (length (now next) ≡ width-of wall) × (at + step-room ≤ length (now out)) ⌝ }
-    ensures { λ r. ⌜ Stepping wall (now (part .entry)) (now (row .entry)) (now (out .entry)) at r (now (row .exit)) (now (out .exit)) ⌝ }
-{
-    match wall.take_in(part, row, links, next) {
-        Take::Took(took) => {
-            let next_wall = took.wall;
-            let end = show(tables, wall, took, part, next, row, out, at);
-            Answer::Went(Went {
-                wall: next_wall,
-                end,
-            })
+    match wall {
+        Wall::New => at,
+        Wall::Start(_) => {
+            copy(next, row);
+            at
         }
-        Take::Unfit => Answer::Unfit,
+        Wall::Row(place) => {
+            let marks = fields::body((row.len() + 7) / 8, part);
+            let end = lines(tables, place, marks, row, out, at);
+            copy(next, row);
+            end
+        }
+        Wall::End(place) => last_lines(tables, place, row, out, at),
+        Wall::Over => at,
     }
 }
 
-fn time_space() -> [u64; 256]
-    ensures { λ r. ⌜ 256 ≡ length r ⌝ }
+// The lines of the last row accepted; row 0 has none.
+fn lines(
+    tables: &[u64],
+    place: Place,
+    marks: &[u8],
+    row: &[u64],
+    out: &mut [u8],
+    at: usize,
+) -> usize
+    requires { ⌜ Tables (now tables) × (place-fits place (length (now row)) ≡ true) × (length (now marks) ≡ mark-bytes (length (now row))) × (at + step-room ≤ length (now out)) ⌝ }
+    ensures { λ r. ⌜ Wrote (now (out .entry)) at (texts-of (row-shown (place .settings) (place .row) (now (marks .entry)) (now (row .entry)))) (now (out .exit)) r ⌝ }
 {
-    [0; 256]
+    if place.row == 0 {
+        return at;
+    }
+    text::row_lines(tables, row.len(), place.row, marks, row, out, at)
 }
 
-// Whether any step's text has room.
-fn has_room(room: usize, at: usize) -> bool
-    ensures { λ r. ⌜ r ≡ leb (at + step-room) room ⌝ }
+// The same of row R, where all tiles are correct.
+fn last_lines(tables: &[u64], place: Place, row: &[u64], out: &mut [u8], at: usize) -> usize
+    requires { ⌜ Tables (now tables) × (place-fits place (length (now row)) ≡ true) × (at + step-room ≤ length (now out)) ⌝ }
+    ensures { λ r. ⌜ Wrote (now (out .entry)) at (texts-of (row-shown (place .settings) (place .row) (no-marks (place .settings .width)) (now (row .entry)))) (now (out .exit)) r ⌝ }
 {
-    if room < ROOM {
-        return false;
-    }
-    at <= room - ROOM
+    let marks = [0u8; 32];
+    let bytes = (row.len() + 7) / 8;
+    lines(tables, place, &marks[..bytes], row, out, at)
 }

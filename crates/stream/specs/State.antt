@@ -7,7 +7,7 @@ use lib.Dec.{ltb}
 use Rattle.steps.specs.Fit.{due-of}
 use Rattle.lines.specs.Row.{step-room}
 use Rattle.window.specs.Window.{Within, lacking, Filled-up}
-use Rattle.wall.specs.Stands.{Stands}
+use Rattle.file.specs.Stands.{Stands}
 use Rattle.steps.specs.declared.Wall.the-variants.{New}
 use Rattle.stream.specs.declared.State.{State}
 use Rattle.stream.specs.declared.Ended.the-variants.{Done}

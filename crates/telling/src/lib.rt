@@ -1,8 +1,8 @@
 // What a step brought: nothing yet, a row's B and reach, a faulty tile, a refusal, or the largest reach.
 mod line;
 
+use crate::line::line;
 use columns::marked;
-use line::line;
 use reach::Reached;
 use reach::reach_in_row;
 use reach::survey::Surveyed;

@@ -1,11 +1,11 @@
 // The lines of a row's tiles.
 mod near;
 
+use crate::near::Near;
 use columns::marked;
 use lines::byte;
 use lines::decimal;
 use lines::word;
-use near::Near;
 use tables::COLUMNS;
 use tables::LENGTHS;
 use words::eight_digits;

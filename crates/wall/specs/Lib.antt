@@ -1,5 +1,1 @@
-pub mod File
-pub mod Limits
-pub mod Promises
-pub mod Program
-pub mod Stands
+pub mod Operation

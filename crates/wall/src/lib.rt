@@ -1,2 +1,101 @@
-// The wall file as a whole: what is printed of any bytes, and what holds of a file that is accepted. Theorems
-// only: specs/ has the definitions and the statements, proofs/ their proofs.
+// A step of a wall file with its text: the lines of the row that is then shown, or of a refusal. `step` is an
+// operation: it answers every input.
+use lines::ROOM;
+use show::show;
+use steps::Take;
+use steps::Wall;
+ghost use mathlib.Core.Path.{_≡_};
+ghost use Prim.Native.Nat.{_+_, _≤_};
+ghost use lib.Dec.{leb};
+ghost use lib.ListN.{length};
+ghost use Rattle.tables.specs.Word.{Tables};
+ghost use Rattle.steps.specs.Fit.{width-of};
+ghost use Rattle.lines.specs.Row.{step-room};
+ghost use Rattle.wall.specs.Operation.{Stepping};
+
+// The wall as a step leaves it, and where the text ends.
+pub struct Went {
+    pub wall: Wall,
+    pub end: usize,
+}
+
+pub enum Answer {
+    Went(Went),
+    // What was lent does not fit the wall; nothing has changed.
+    Unfit,
+}
+
+// Takes the part of the file that is due. The row is the wall's, W times, and the next takes its
+// place; the text goes into `out` from `at` on.
+pub fn step(wall: Wall, part: &[u8], row: &mut [u64], out: &mut [u8], at: usize) -> Answer
+    ensures { λ r. ⌜ Stepping wall (now (part .entry)) (now (row .entry)) (now (out .entry)) at r (now (row .exit)) (now (out .exit)) ⌝ }
+{
+    let mut tables = tables::space();
+    tables::fill(&mut tables);
+    let mut links = row_fields::link_space();
+    step_by(wall, &tables, &mut links, part, row, out, at)
+}
+
+// The same with tables, and room for link values, that are made once for all steps.
+pub fn step_by(
+    wall: Wall,
+    tables: &[u64],
+    links: &mut [u64],
+    part: &[u8],
+    row: &mut [u64],
+    out: &mut [u8],
+    at: usize,
+) -> Answer
+    requires { ⌜ Tables (now tables) × (770 ≤ length (now links)) ⌝ }
+    ensures { λ r. ⌜ Stepping wall (now (part .entry)) (now (row .entry)) (now (out .entry)) at r (now (row .exit)) (now (out .exit)) ⌝ }
+{
+    if !has_room(out.len(), at) {
+        return Answer::Unfit;
+    }
+    let width = wall.width();
+    let mut next = time_space();
+    step_in(wall, tables, links, part, &mut next[..width], row, out, at)
+}
+
+// With room for the next row.
+fn step_in(
+    wall: Wall,
+    tables: &[u64],
+    links: &mut [u64],
+    part: &[u8],
+    next: &mut [u64],
+    row: &mut [u64],
+    out: &mut [u8],
+    at: usize,
+) -> Answer
+    requires { ⌜ Tables (now tables) × (770 ≤ length (now links)) × (length (now next) ≡ width-of wall) × (at + step-room ≤ length (now out)) ⌝ }
+    ensures { λ r. ⌜ Stepping wall (now (part .entry)) (now (row .entry)) (now (out .entry)) at r (now (row .exit)) (now (out .exit)) ⌝ }
+{
+    match wall.take_in(part, row, links, next) {
+        Take::Took(took) => {
+            let next_wall = took.wall;
+            let end = show(tables, wall, took, part, next, row, out, at);
+            Answer::Went(Went {
+                wall: next_wall,
+                end,
+            })
+        }
+        Take::Unfit => Answer::Unfit,
+    }
+}
+
+fn time_space() -> [u64; 256]
+    ensures { λ r. ⌜ 256 ≡ length r ⌝ }
+{
+    [0; 256]
+}
+
+// Whether any step's text has room.
+fn has_room(room: usize, at: usize) -> bool
+    ensures { λ r. ⌜ r ≡ leb (at + step-room) room ⌝ }
+{
+    if room < ROOM {
+        return false;
+    }
+    at <= room - ROOM
+}

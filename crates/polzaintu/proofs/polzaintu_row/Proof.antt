@@ -4,7 +4,7 @@ use lib.ListN.{length}
 use Rattle.settings.specs.declared.Settings.{Settings}
 use Rattle.admission.specs.Call.{Call, call}
 use Rattle.row.specs.Row.{planned, written, number-of}
-use Rattle.polzaintu.specs.Words.{settings-from}
+use Rattle.layout.specs.Words.{settings-from}
 use Rattle.polzaintu.specs.Answers.{ends-left}
 use borrow.Author.Needs.{needs}
 use Rattle.polzaintu.proofs.polzaintu_row.Statement.{statement}

@@ -7,7 +7,7 @@ use mir.Val.{toZ, ofZ}
 use mir.ValLaws.{toZ-ofZ}
 use Rattle.tile.specs.Tile.{forwarded, number-of}
 use Rattle.settings.specs.declared.Settings.{Settings}
-use Rattle.polzaintu.specs.Words.{settings-from, stamps-in}
+use Rattle.layout.specs.Words.{settings-from, stamps-in}
 use Rattle.polzaintu.specs.Answers.{forwarded-left}
 use borrow.Author.Needs.{needs}
 use Rattle.polzaintu.proofs.polzaintu_tile.Statement.{statement}

@@ -4,7 +4,7 @@ use lib.ListN.{length}
 use borrow.Author.Tests.{eq-eqb, ne-eqb}
 use Rattle.steps.specs.Take.{take-of, row-after}
 use Rattle.steps.specs.declared.Wall.{Wall}
-use Rattle.polzaintu.specs.Words.{place-in, wall-in, wall-words}
+use Rattle.layout.specs.Words.{place-in, wall-in, wall-words}
 use Rattle.polzaintu.specs.Answers.{step-number, wall-left, offset-left}
 use borrow.Author.Needs.{needs}
 use Rattle.polzaintu.proofs.polzaintu_wall_step.Statement.{statement}

@@ -2,7 +2,7 @@
 use mathlib.Core.Path.{_≡_, sym, _∙_, ap}
 use Rattle.settings.specs.declared.Settings.{Settings}
 use Rattle.reach.specs.Search.{gap-of}
-use Rattle.polzaintu.specs.Words.{settings-from}
+use Rattle.layout.specs.Words.{settings-from}
 use Rattle.polzaintu.specs.Answers.{gap-number, gap-left}
 use borrow.Author.Needs.{needs}
 use Rattle.polzaintu.proofs.polzaintu_widest_gap.Statement.{statement}

@@ -6,9 +6,9 @@ use native.Mathlib.Omega.{arith}
 use borrow.Author.Needs.{needs}
 use lib.ListN.{length}
 use Rattle.steps.specs.Fit.{due-of}
-use Rattle.wall.specs.Stands.{steps-left}
+use Rattle.file.specs.Stands.{steps-left}
 use Rattle.stream.specs.State.{Between}
-use Rattle.wall.proofs.Laws.Stands.{none-due}
+use Rattle.file.proofs.Laws.Stands.{none-due}
 use Rattle.stream.proofs.Laws.State.{starts-between, ready-on, ready-between}
 use Rattle.print.proofs.Laws.{turn-ahead, turn-between}
 use Rattle.print.proofs.run_in.Statement.{statement}

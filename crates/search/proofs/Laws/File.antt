@@ -17,14 +17,14 @@ use Rattle.fields.specs.Field.{body}
 use Rattle.contents.specs.Contents.{start-size, times-in, row-size, marks-in, call-in}
 use Rattle.steps.specs.Number.{settings-number, start-number, row-number, row-offset}
 use Rattle.steps.specs.Shown.{row-shown, no-marks, number-shown, offset-shown}
-use Rattle.wall.specs.Stands.{Stands}
+use Rattle.file.specs.Stands.{Stands}
 use Rattle.steps.specs.Step.{Stepped, place, due-size, stepped, away, after-row, step-of}
 use Rattle.steps.specs.Take.{row-left, next-row}
 use Rattle.steps.specs.declared.Place.{Place}
 use Rattle.steps.specs.declared.Wall.{Wall}
 use Rattle.steps.specs.declared.Wall.the-variants.{New, Start, Row, End, Over}
-use Rattle.wall.proofs.Laws.Part.{marks-part}
-use Rattle.wall.proofs.Laws.Steps.{part-enough}
+use Rattle.file.proofs.Laws.Part.{marks-part}
+use Rattle.file.proofs.Laws.Steps.{part-enough}
 use Rattle.steps.proofs.Laws.Taken.{settings-away, settings-goes, start-away, start-goes, row-away, row-goes, end-away, end-goes, no-number}
 use Rattle.telling.specs.Telling.{first-marked, says, survey-says, step-says, telling}
 use Rattle.search.specs.File.{with-lines, rows-told, start-told, file-told}

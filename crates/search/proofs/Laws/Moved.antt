@@ -6,12 +6,12 @@ use Prim.Native.Nat.{ℕ, _+_, _-_, min}
 use lib.ListN.{length, take, drop}
 use lib.Seq.{take-at}
 use Rattle.steps.specs.Fit.{due-of, width-of}
-use Rattle.wall.specs.Stands.{Stands, steps-left}
+use Rattle.file.specs.Stands.{Stands, steps-left}
 use Rattle.steps.specs.Take.{takes, Taking}
 use Rattle.steps.specs.declared.Take.{Take}
 use Rattle.steps.specs.declared.Take.the-variants as take
 use Rattle.steps.specs.declared.Wall.{Wall}
-use Rattle.wall.proofs.Laws.Stands.{Ahead, stands-fits}
+use Rattle.file.proofs.Laws.Stands.{Ahead, stands-fits}
 use Rattle.steps.proofs.Laws.Taken.{unfit-step}
 use Rattle.stream.specs.State.{Between}
 use Rattle.window.specs.Window.{Within, bytes-in}

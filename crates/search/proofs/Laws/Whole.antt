@@ -17,9 +17,9 @@ use Rattle.reach.specs.Survey.{last-reach, largest-of, Row-surveyed}
 use Rattle.reach.proofs.Promises.{row-surveyed}
 use Rattle.contents.specs.Contents.{row-size, marks-in, call-in}
 use Rattle.steps.specs.Number.{row-number}
-use Rattle.wall.specs.Limits.{calls-in, Rows-keep, over, and-then}
-use Rattle.wall.proofs.Laws.Limits.{keeps}
-use Rattle.wall.proofs.Laws.Rows.{Grown, early-of, grows, call-accepted}
+use Rattle.file.specs.Limits.{calls-in, Rows-keep, over, and-then}
+use Rattle.file.proofs.Laws.Limits.{keeps}
+use Rattle.file.proofs.Laws.Rows.{Grown, early-of, grows, call-accepted}
 use Rattle.telling.specs.Text.{largest-word, line-text, gap-text}
 use Rattle.telling.specs.Telling.{first-in, first-marked}
 use Rattle.search.specs.File.{with-lines, rows-told}

@@ -5,8 +5,8 @@ use Prim.Native.Nat.{_≤_}
 use native.Mathlib.Omega.{arith}
 use lib.ListN.{length}
 use Rattle.steps.specs.Fit.{due-of}
-use Rattle.wall.specs.Stands.{steps-left}
-use Rattle.wall.proofs.Laws.Stands.{none-due}
+use Rattle.file.specs.Stands.{steps-left}
+use Rattle.file.proofs.Laws.Stands.{none-due}
 use Rattle.stream.specs.State.{Between}
 use Rattle.stream.proofs.Laws.State.{starts-between, ready-on, ready-between}
 use Rattle.search.proofs.Laws.Moved.{moved-ahead, moved-between}

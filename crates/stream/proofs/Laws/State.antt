@@ -12,7 +12,7 @@ use Rattle.lines.specs.Wrote.{Wrote}
 use Rattle.steps.specs.Fit.{due-of}
 use Rattle.lines.specs.Row.{step-room}
 use Rattle.window.specs.Window.{Within, bytes-in, lacking, filled-up}
-use Rattle.wall.specs.Stands.{Stands}
+use Rattle.file.specs.Stands.{Stands}
 use Rattle.stream.specs.State.{Between, Starts, to-write, Made-ready, made-ready}
 use Rattle.stream.specs.declared.State.{State}
 use Rattle.window.specs.declared.Window.{Window}

@@ -18,7 +18,7 @@ use Rattle.steps.specs.Take.{took, took-of}
 use Rattle.steps.specs.declared.Took.{Took}
 use Rattle.steps.specs.declared.Wall.{Wall}
 use Rattle.steps.proofs.Laws.Fit.{fit-of}
-use Rattle.show.proofs.Laws.Lines.{row-there}
+use Rattle.show.proofs.Laws.{row-there}
 use Rattle.telling.specs.Telling.{Telling, says, row-says, step-says, telling}
 use Rattle.telling.specs.Said.{Said}
 use Rattle.telling.proofs.Laws.Telling.{said, told-away, told-on}

@@ -1,0 +1,10 @@
+-- The laws of the definitions, each file over one of them.
+pub mod Part
+pub mod Steps
+pub mod Limits
+pub mod Rows
+pub mod Numbers
+pub mod Seams
+pub mod Calls
+pub mod Reached
+pub mod Stands

@@ -1,0 +1,116 @@
+-- What calls of the operation write over a file is the text of the steps over it. Assumes nothing.
+use mathlib.Core.Path.{_≡_, refl, sym, _∙_, ap}
+use mathlib.Core.Bool.{true}
+use mathlib.Core.List.{List, [], _∷_, _++_, append-assoc}
+use Prim.Native.Nat.{ℕ, zero, suc, _+_, _≤_}
+use lib.ListN.{length, take, drop}
+use lib.Seq.{drop-at, length-take-le}
+use native.Mathlib.Omega.{arith}
+use Rattle.settings.proofs.Laws.Cases.{by-equal}
+use Rattle.columns.proofs.Laws.Lists.{by-test}
+use Rattle.steps.specs.Shown.{Shown}
+use Rattle.show.specs.Text.{texts-of, text-of}
+use Rattle.steps.specs.Number.{start-number}
+use Rattle.file.specs.File.{wall-text}
+use Rattle.steps.specs.Step.{stepped, away, due-size, step-of, steps-shown}
+use Rattle.steps.specs.Fit.{due-of, wall-fits}
+use Rattle.wall.specs.Operation.{fits, went-to, Stepping}
+use Rattle.file.specs.Program.{Calls, over, lent, took}
+use Rattle.steps.specs.declared.Place.{Place}
+use Rattle.steps.specs.declared.Wall.{Wall}
+use Rattle.steps.specs.declared.Wall.the-variants.{New, Start}
+use Rattle.wall.specs.declared.Went.{Went}
+use Rattle.wall.specs.declared.Answer.{Answer}
+use Rattle.wall.specs.declared.Answer.the-variants as step
+use Rattle.wall.proofs.Laws.Fit.{fits-all}
+use Rattle.steps.proofs.Laws.Fit.{fits-due}
+use Rattle.steps.proofs.Laws.Taken.{start-goes, start-away}
+use Rattle.file.proofs.Laws.Steps.{one-step, nothing-more, steps-right}
+
+texts-append : (xs ys : List Shown) → texts-of (xs ++ ys) ≡ texts-of xs ++ texts-of ys
+unfolding texts-of
+texts-append [] ys = refl
+texts-append (x ∷ xs) ys = ap (λ (t : List ℕ). text-of x ++ t) (texts-append xs ys) ∙ sym (append-assoc (text-of x) (texts-of xs) (texts-of ys))
+
+-- the row lent for row 0 does not matter
+any-row : (n : ℕ) (p : Place) (ts us bs : List ℕ) → steps-shown n (Start p) ts bs ≡ steps-shown n (Start p) us bs
+unfolding step-of stepped away
+any-row zero p ts us bs = unfold steps-shown in refl
+any-row (suc n) p ts us bs =
+    let s = p .settings in
+    let rest = drop (due-size (Start p)) bs in
+    by-equal (start-number s bs) 0
+    (λ e. rw (one-step n (Start p) ts bs, one-step n (Start p) us bs, start-goes ts bs s (p .offset) e, start-goes us bs s (p .offset) e))
+    (λ k. rw (
+      one-step n (Start p) ts bs,
+      one-step n (Start p) us bs,
+      start-away ts bs s (p .offset) (start-number s bs) refl k,
+      start-away us bs s (p .offset) (start-number s bs) refl k,
+      nothing-more n ts rest,
+      nothing-more n us rest,
+    ))
+
+-- a call that went was one that fits, and its text is the step's
+module _ (x : Wall) (part row held : List ℕ) (at : ℕ) (answer : Answer) (went : Went) (row-after out : List ℕ) (i : at ≤ length held)
+    (d : Stepping x part row held at answer row-after out) (e : answer ≡ step.Went went) where
+  did-fit : fits x (length row) (length held) at ≡ true
+  did-fit =
+      by-test (fits x (length row) (length held) at)
+      (λ t. t)
+      (λ t. let f : answer ≡ step.Unfit = rw t at (d .answered) in
+      let never : _≡_ {A = ℕ} 0 1 = cc in
+      absurd (let g : ⊥ = omega arith in g))
+
+  its-went : went ≡ went-to (step-of x row part) at
+  its-went = let f : answer ≡ step.Went (went-to (step-of x row part) at) = rw did-fit at (d .answered) in cc
+
+  its-row : row-after ≡ step-of x row part .row
+  its-row = rw did-fit at (d .row-left)
+
+  its-text : drop at (take (went .end) out) ≡ texts-of (step-of x row part .shows)
+  unfolding went-to
+  its-text = rw (its-went, d .text did-fit .holds) (drop-at (take at held) _ at (length-take-le at held i))
+
+-- the text of one step and of those after it
+step-then : (m : ℕ) (x : Wall) (n : ℕ) (row rest : List ℕ) → wall-fits x n ≡ true →
+    let o = step-of x row (take (due-of x) rest) in
+    texts-of (steps-shown (suc m) x row rest) ≡ texts-of (o .shows) ++ texts-of (steps-shown m (o .next) (o .row) (drop (due-of x) rest))
+unfolding steps-shown
+step-then m x n row rest e = rw (fits-due x n e) (texts-append _ _)
+
+-- so many steps, or more, have this text
+record Shows (x : Wall) (row rest text : List ℕ) : Type 0 where
+  pub steps : ℕ
+  pub shows : (n : ℕ) → steps ≤ n → texts-of (steps-shown n x row rest) ≡ text
+
+one-more : {x : Wall} {row rest text : List ℕ} (held : List ℕ) (at : ℕ) (answer : Answer) (went : Went) (row-after out : List ℕ) → at ≤ length held →
+    Stepping x (take (due-of x) rest) row held at answer row-after out → answer ≡ step.Went went → Shows (went .wall) row-after (drop (due-of x) rest) text →
+    Shows x row rest (drop at (take (went .end) out) ++ text)
+one-more {x} {row} {rest} {text} held at answer went row-after out i d e k = record { steps = suc (k .steps); shows = go }
+  where
+    part : List ℕ
+    part = take (due-of x) rest
+
+    go : (n : ℕ) → suc (k .steps) ≤ n → texts-of (steps-shown n x row rest) ≡ drop at (take (went .end) out) ++ text
+    go zero j = let never : ⊥ = omega arith in absurd never
+    go (suc m) j =
+        let o = step-of x row part in
+        let fit = fits-all x (length row) (length held) at (did-fit x part row held at answer went row-after out i d e) .1 in
+        let wall-same : went .wall ≡ o .next = unfold went-to in ap (λ (w : Went). w .wall) (its-went x part row held at answer went row-after out i d e) in
+        let row-same = its-row x part row held at answer went row-after out i d e in
+        step-then m x (length row) row rest fit
+        ∙ ap (λ (t : List ℕ). texts-of (o .shows) ++ t) (rw (← wall-same, ← row-same) (k .shows m (omega arith)))
+        ∙ ap (λ (t : List ℕ). t ++ text) (sym (its-text x part row held at answer went row-after out i d e))
+
+shows : {x : Wall} {row rest text : List ℕ} → Calls x row rest text → Shows x row rest text
+shows (over {row} {rest}) = record { steps = 0; shows = λ n i. rw (nothing-more n row rest) (unfold texts-of in refl) }
+shows (lent {p} {row} {rest} held c) =
+    let k = shows c in
+    record { steps = k .steps; shows = λ n i. rw (any-row n p held row rest) (k .shows n i) }
+shows (took held at answer went row-after out i d e c) = one-more held at answer went row-after out i d e (shows c)
+
+pub calls-right : (row file text : List ℕ) → Calls New row file text → text ≡ wall-text file
+unfolding wall-text
+calls-right row file text c =
+    let k = shows c in
+    sym (k .shows (k .steps + 1027) (omega arith)) ∙ ap texts-of (steps-right row file (k .steps + 1027) (omega arith))

@@ -1,0 +1,5 @@
+pub mod File
+pub mod Limits
+pub mod Promises
+pub mod Program
+pub mod Stands

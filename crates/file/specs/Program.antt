@@ -1,0 +1,41 @@
+-- Calls of the operation `step` itself, known by its contract alone. Assumes nothing.
+use mathlib.Core.Path.{_≡_}
+use mathlib.Core.Bool.{true}
+use mathlib.Core.List.{List, [], _++_}
+use Prim.Native.Nat.{ℕ, _≤_}
+use lib.ListN.{length, take, drop}
+use Rattle.file.specs.File.{wall-text}
+use Rattle.steps.specs.Step.{step-of}
+use Rattle.steps.specs.Fit.{due-of, wall-fits}
+use Rattle.wall.specs.Operation.{Stepping}
+use Rattle.steps.specs.declared.Wall.{Wall}
+use Rattle.steps.specs.declared.Wall.the-variants.{New, Start, Over}
+use Rattle.steps.specs.declared.Place.{Place}
+use Rattle.wall.specs.declared.Went.{Went}
+use Rattle.wall.specs.declared.Answer.{Answer}
+use Rattle.wall.specs.declared.Answer.the-variants as step
+
+-- calls over a file until it is over: each is given as many bytes as are due, fewer only where the file ends, the row that the
+-- last one left, and room in any buffer; `text` is what they wrote there, one after the other. For row 0 any row of W may be lent.
+pub data Calls : (wall : Wall) → (row rest text : List ℕ) → Type 0 where
+  over : {row rest : List ℕ} → Calls Over row rest []
+  lent : {p : Place} {row rest text : List ℕ} (held : List ℕ) → Calls (Start p) row rest text → Calls (Start p) held rest text
+  took : {x : Wall} {row rest text : List ℕ} (held : List ℕ) (at : ℕ) (answer : Answer) (went : Went) (row-after out : List ℕ) → at ≤ length held →
+      Stepping x (take (due-of x) rest) row held at answer row-after out → answer ≡ step.Went went → Calls (went .wall) row-after (drop (due-of x) rest) text →
+      Calls x row rest (drop at (take (went .end) out) ++ text)
+
+-- what the calls write over a whole file is what the definition says is printed of it
+unfoldable pub Calls-right : Type 0
+Calls-right = (row file text : List ℕ) → Calls New row file text → text ≡ wall-text file
+
+-- a wall and its row that steps reach, whatever the parts hold; for row 0 any row may be lent
+pub data Reached : (wall : Wall) → (row : List ℕ) → Type 0 where
+  new : (row : List ℕ) → Reached New row
+  lend : {p : Place} {row : List ℕ} (held : List ℕ) → Reached (Start p) row → Reached (Start p) held
+  next : {x : Wall} {row : List ℕ} (part : List ℕ) → wall-fits x (length row) ≡ true → Reached x row →
+      Reached (step-of x row part .next) (step-of x row part .row)
+
+-- so a run never comes to a wall that fits no call: with room, and for row 0 a row of W, the next step is taken
+unfoldable pub Reached-fits : Type 0
+Reached-fits =
+    (x : Wall) (row : List ℕ) → Reached x row → ((p : Place) → x ≡ Start p → length row ≡ p .settings .width) → wall-fits x (length row) ≡ true

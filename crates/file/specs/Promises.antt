@@ -1,0 +1,69 @@
+-- What is promised of a wall file. Each statement is proved in proofs/Promises.antt, under its name in small letters.
+-- Assumes nothing.
+use mathlib.Core.Path.{_≡_}
+use mathlib.Core.Bool.{Bool, true, _||_}
+use mathlib.Core.List.{List, [], _∷_}
+use mathlib.Core.Option.{some}
+use Prim.Native.Nat.{ℕ, _<_}
+use lib.Dec.{leb, eqb}
+use lib.ListN.{length, getD}
+use Rattle.columns.specs.Columns.{are-neighbours, any-of}
+use Rattle.columns.specs.Marks.{marked}
+use Rattle.runs.specs.Run.{taken}
+use Rattle.runs.specs.Reach.{Alike, Reach}
+use Rattle.seam.specs.Seam.{seam-of, number-of, side-of}
+use Rattle.seam.specs.declared.Side.the-variants.{Both}
+use Rattle.steps.specs.Shown.{Shown, lines, turned-away, number-shown}
+use Rattle.file.specs.File.{shown}
+use Rattle.steps.specs.Step.{steps-shown}
+use Rattle.file.specs.Limits.{settings-of, start-of, calls-of, rows-of, Keeps, run-shown}
+use Rattle.steps.specs.declared.Wall.the-variants.{New}
+
+-- running the steps over any bytes, whatever the row held, shows what the definition of the whole shows, and 1,027 steps are
+-- enough
+unfoldable pub Steps-right : Type 0
+Steps-right = (n : ℕ) (row file : List ℕ) → 1026 < n → steps-shown n New row file ≡ shown file
+
+-- demand 1: "A wall description that keeps every limit is accepted and run to its last row."
+unfoldable pub Accepted-whole : Type 0
+Accepted-whole =
+    (file : List ℕ) → Keeps file →
+    shown file ≡ run-shown (settings-of file) 0 (calls-of file) (start-of file) (rows-of file)
+
+-- .. "Any other is turned away": a file that isn't turned away keeps every limit
+unfoldable pub Others-refused : Type 0
+Others-refused = (file : List ℕ) → number-shown (shown file) ≡ 0 → Keeps file
+
+-- .. "with the number that 01 gives for its fault": 21 and 23 never arise
+unfoldable pub in-a-file : (number : ℕ) → Bool
+in-a-file n = leb n 9 || any-of (22 ∷ 24 ∷ 25 ∷ 26 ∷ 41 ∷ 42 ∷ 43 ∷ 44 ∷ 45 ∷ []) (eqb n)
+
+unfoldable pub Numbers-met : Type 0
+Numbers-met = (file : List ℕ) → in-a-file (number-shown (shown file)) ≡ true
+
+-- 31 and `open both` don't arise either: what holds of the seams of a row that is shown
+unfoldable pub Seams-hold : Shown → Type 0
+Seams-hold (lines w l ms ts) =
+    (a b : ℕ) → a < w → b < w → are-neighbours w a b ≡ true →
+    let seam = seam-of (getD ts a 0) (marked ms a) (getD ts b 0) (marked ms b) in
+    (number-of seam ≡ 0) × (side-of seam ≡ some Both → ⊥)
+Seams-hold (turned-away n at) = Unit {0}
+
+pub data Every (P : Shown → Type 0) : List Shown → Type 0 where
+  no-more : Every P []
+  also : {x : Shown} {xs : List Shown} → P x → Every P xs → Every P (x ∷ xs)
+
+unfoldable pub Seams-answered : Type 0
+Seams-answered = (file : List ℕ) → Every Seams-hold (shown file)
+
+-- "The rows of an accepted wall file come from such a list": every call is accepted, and there are R
+unfoldable pub File-is-run : Type 0
+File-is-run =
+    (file : List ℕ) → Keeps file →
+    (taken (settings-of file) (calls-of file) (start-of file) ≡ calls-of file) × (length (rows-of file) ≡ settings-of file .rows)
+
+-- so demand 3 holds of files
+unfoldable pub File-one-fault : Type 0
+File-one-fault =
+    (a b : List ℕ) (f k : ℕ) → Keeps a → Keeps b → settings-of a ≡ settings-of b → start-of a ≡ start-of b → k < settings-of a .width →
+    f < settings-of a .rows → Alike (settings-of a .width) f k (calls-of a) (calls-of b) → Reach (settings-of a) (start-of a) f k (rows-of a) (rows-of b)

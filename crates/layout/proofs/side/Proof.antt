@@ -1,0 +1,29 @@
+-- `words::side` meets its contract. Assumes nothing.
+use Rattle.layout.specs.Words.{side-word}
+use borrow.Author.Needs.{needs}
+use Rattle.layout.proofs.side.Statement.{statement}
+use Rattle.layout.proofs.side.Tie as tie
+
+enum-told : tie.Need-enum-told
+enum-told c = search needs
+
+enum-told-2 : tie.Need-enum-told-2
+enum-told-2 c = search needs
+
+enum-told-3 : tie.Need-enum-told-3
+enum-told-3 c = search needs
+
+returns : tie.Need-returns
+unfolding side-word
+returns c = rw (c .enum-told .given .1)
+
+returns-2 : tie.Need-returns-2
+unfolding side-word
+returns-2 c = rw (c .enum-told2 .given .1)
+
+returns-3 : tie.Need-returns-3
+unfolding side-word
+returns-3 c = rw (c .enum-told3 .given .1)
+
+pub side-spec : {M : Type 1} → statement M
+side-spec = tie.close (tie.spec enum-told enum-told-2 enum-told-3 returns returns-2 returns-3)

@@ -1,0 +1,36 @@
+-- What is promised of structs as words. Each statement is proved in proofs/Promises.antt, under its name in small letters.
+-- Assumes nothing.
+use mathlib.Core.Path.{_≡_}
+use mathlib.Core.Bool.{Bool, false, cond, not, _&&_}
+use mathlib.Core.List.{List}
+use Prim.Native.Nat.{ℕ, _≤_, _<_}
+use lib.Dec.{eqb, ltb}
+use lib.ListN.{getD}
+use Rattle.settings.specs.Refusal.{outside}
+use Rattle.rule.specs.Stamp.{Stamp, heard, silent, latest-stamp}
+use Rattle.tile.specs.Tile.{stamp-at, late-at}
+use Rattle.steps.specs.declared.Place.{Place}
+use Rattle.steps.specs.declared.Wall.{Wall}
+use Rattle.layout.specs.Words.{silent-word, stamps-in, wall-in, wall-words}
+
+-- a word as a stamp: "2^64 - 1 is silent", and "a stamp over 2^41 - 1 that isn't silent" is 12
+unfoldable pub word-stamp : (word : ℕ) → Stamp
+word-stamp n = cond (eqb n silent-word) silent (heard n)
+
+unfoldable pub word-late : (word : ℕ) → Bool
+word-late n = not (eqb n silent-word) && ltb latest-stamp n
+
+-- the stamps that are handed in are those, whatever is taken as less
+unfoldable pub Stamps-read : Type 0
+Stamps-read =
+    (ws : List ℕ) (j : ℕ) → j < 4 →
+    (late-at (stamps-in ws) j ≡ word-late (getD ws j 0)) × (word-late (getD ws j 0) ≡ false → stamp-at (stamps-in ws) j ≡ word-stamp (getD ws j 0))
+
+-- and so is the count, where it is not turned away with 11
+unfoldable pub Count-read : Type 0
+Count-read =
+    (ws : List ℕ) → (outside 2 3 (stamps-in ws .count) ≡ outside 2 3 (getD ws 4 0)) × (getD ws 4 0 ≤ 3 → stamps-in ws .count ≡ getD ws 4 0)
+
+-- a wall's words are read as the wall that was written, so calls one after the other are steps of one file
+unfoldable pub Walls-kept : Type 0
+Walls-kept = (x : Wall) (p : Place) → wall-in (wall-words x p) ≡ x

@@ -1,0 +1,33 @@
+-- A step with its text: what must fit, and what it leaves. Assumes nothing.
+use mathlib.Core.Path.{_≡_}
+use mathlib.Core.Bool.{Bool, true, false, cond, _&&_}
+use mathlib.Core.List.{List}
+use Prim.Native.Nat.{ℕ, _+_}
+use lib.Dec.{leb}
+use lib.ListN.{length}
+use Rattle.lines.specs.Wrote.{Wrote}
+use Rattle.show.specs.Text.{texts-of}
+use Rattle.steps.specs.Step.{Stepped, step-of}
+use Rattle.steps.specs.declared.Wall.{Wall}
+use Rattle.wall.specs.declared.Went.{Went}
+use Rattle.wall.specs.declared.Answer.{Answer}
+use Rattle.wall.specs.declared.Answer.the-variants as step
+use Rattle.steps.specs.Fit.{wall-fits}
+use Rattle.lines.specs.Row.{step-room}
+
+-- and the buffer has room for the text
+unfoldable pub fits : Wall → (row room at : ℕ) → Bool
+fits x n room at = leb (at + step-room) room && wall-fits x n
+
+-- the answer: the wall of the step, and where its text ends
+unfoldable pub went-to : Stepped → (at : ℕ) → Went
+went-to o at = record { wall = o .next; end = at + length (texts-of (o .shows)) }
+
+-- what the operation answers and leaves: a step of the definition where all fits, otherwise nothing has changed
+pub record Stepping (x : Wall) (part row held : List ℕ) (at : ℕ) (answer : Answer) (row-after out : List ℕ) : Type 0 where
+  pub answered : answer ≡ cond (fits x (length row) (length held) at) (step.Went (went-to (step-of x row part) at)) step.Unfit
+  pub row-left : row-after ≡ cond (fits x (length row) (length held) at) (step-of x row part .row) row
+  pub text :
+      fits x (length row) (length held) at ≡ true →
+      Wrote held at (texts-of (step-of x row part .shows)) out (at + length (texts-of (step-of x row part .shows)))
+  pub kept : fits x (length row) (length held) at ≡ false → out ≡ held
