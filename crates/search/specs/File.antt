@@ -13,7 +13,7 @@ use Rattle.lines.specs.Line.{refused-line}
 use Rattle.fields.specs.Field.{body}
 use Rattle.contents.specs.Contents.{settings-size, settings-in, start-size, times-in, row-size, marks-in, call-in}
 use Rattle.steps.specs.Number.{settings-number, start-number, row-number, row-offset}
-use Rattle.telling.specs.Text.{faulty-word, largest-word, line-text, gap-text}
+use Rattle.search_lines.specs.Text.{faulty-word, largest-word, line-text, gap-text}
 use Rattle.telling.specs.Telling.{first-marked}
 
 -- row l's lines, and then what follows with the largest reach of the rows so far; every row of a wall file has them (`Row-surveyed`)

@@ -18,7 +18,7 @@ use Rattle.steps.specs.declared.Wall.the-variants.{New, Over}
 use Rattle.window.specs.Window.{bytes-in}
 use Rattle.stream.specs.State.{Between, Made-ready}
 use Rattle.stream.specs.declared.State.{State}
-use Rattle.telling.specs.Text.{largest-word, line-text, gap-text}
+use Rattle.search_lines.specs.Text.{largest-word, line-text, gap-text}
 use Rattle.search.specs.File.{search-text}
 use Rattle.telling.specs.Telling.{Telling, telling}
 use Rattle.search.specs.Moved.{told, Moved}

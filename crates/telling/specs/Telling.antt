@@ -14,7 +14,7 @@ use Rattle.steps.specs.Shown.{number-shown, offset-shown}
 use Rattle.steps.specs.declared.Place.{Place}
 use Rattle.steps.specs.declared.Wall.{Wall}
 use Rattle.steps.specs.declared.Wall.the-variants.{New, Start, Row, End, Over}
-use Rattle.telling.specs.Text.{faulty-word, largest-word, line-text, gap-text}
+use Rattle.search_lines.specs.Text.{faulty-word, largest-word, line-text, gap-text}
 
 -- the lowest marked column below w, or w
 unfoldable pub first-in : (n c : ℕ) → (marks : List ℕ) → ℕ

@@ -1,14 +1,9 @@
 // What a step brought: nothing yet, a row's B and reach, a faulty tile, a refusal, or the largest reach.
-mod line;
-
-use crate::line::line;
 use columns::marked;
-use reach::Reached;
-use reach::reach_in_row;
 use reach::survey::Surveyed;
 use reach::survey::survey;
-use settings::rounding::less;
-use settings::rounding::smaller;
+use search_lines::line;
+use search_lines::row_lines;
 use steps::Place;
 use steps::Took;
 use steps::Wall;
@@ -17,13 +12,11 @@ ghost use mathlib.Core.Bool.{true};
 ghost use Prim.Native.Nat.{_+_, _≤_};
 ghost use lib.ListN.{length, take};
 ghost use Rattle.columns.specs.Marks.{mark-bytes};
-ghost use Rattle.reach.specs.Search.{reach-in-row};
 ghost use Rattle.lines.specs.Wrote.{Wrote};
 ghost use Rattle.steps.specs.Step.{step-of};
 ghost use Rattle.steps.specs.Fit.{place-fits, wall-fits};
 ghost use Rattle.lines.specs.Row.{step-room};
 ghost use Rattle.steps.specs.Take.{took-of};
-ghost use Rattle.telling.specs.Text.{reach-text, gap-text};
 ghost use Rattle.telling.specs.Telling.{first-marked, row-says, telling};
 ghost use Rattle.telling.specs.Said.{Said};
 
@@ -33,9 +26,6 @@ pub struct Told {
     pub largest: u64,
     pub end: usize,
 }
-
-// So many of the rows asked for count.
-pub const ASKED_MOST: u64 = 16;
 
 // The row is the last before the step, and the part is what the step took.
 pub fn tell(
@@ -162,35 +152,4 @@ fn first_marked(width: usize, marks: &[u8]) -> usize
         c += 1;
     }
     c
-}
-
-// B of the row, and its reach in each later row that is asked for.
-fn row_lines(asked: &[u64], place: Place, gap: u64, out: &mut [u8], at: usize) -> usize
-    requires { ⌜ at + step-room ≤ length (now out) ⌝ }
-    ensures { λ r. ⌜ Wrote (now (out .entry)) at (gap-text (place .settings) gap (place .row) (take 16 (now (asked .entry)))) (now (out .exit)) r ⌝ }
-{
-    let mut end = line(b"b", &[place.row, gap], out, at);
-    let count = smaller(asked.len() as u64, ASKED_MOST) as usize;
-    let mut i = 0;
-    while i < count {
-        end = reach_line(place, gap, asked[i], out, end);
-        i += 1;
-    }
-    end
-}
-
-// The reach in a later row of the wall; any other row has no line.
-fn reach_line(place: Place, gap: u64, later: u64, out: &mut [u8], at: usize) -> usize
-    requires { ⌜ at + 100 ≤ length (now out) ⌝ }
-    ensures { λ r. ⌜ Wrote (now (out .entry)) at (reach-text (place .row) later (reach-in-row (place .settings) gap (place .row) later 0)) (now (out .exit)) r ⌝ }
-{
-    let settings = place.settings;
-    match reach_in_row(settings, gap, place.row, later, 0) {
-        Reached::Within(range) => {
-            let hops = less(later, place.row);
-            line(b"r", &[place.row, later, range.ticks, hops], out, at)
-        }
-        Reached::Outside => at,
-        Reached::Refused(_) => at,
-    }
 }

@@ -20,7 +20,7 @@ use Rattle.steps.specs.Number.{row-number}
 use Rattle.file.specs.Limits.{calls-in, Rows-keep, over, and-then}
 use Rattle.file.proofs.Laws.Limits.{keeps}
 use Rattle.file.proofs.Laws.Rows.{Grown, early-of, grows, call-accepted}
-use Rattle.telling.specs.Text.{largest-word, line-text, gap-text}
+use Rattle.search_lines.specs.Text.{largest-word, line-text, gap-text}
 use Rattle.telling.specs.Telling.{first-in, first-marked}
 use Rattle.search.specs.File.{with-lines, rows-told}
 use Rattle.search.specs.Promises.{gaps-text}

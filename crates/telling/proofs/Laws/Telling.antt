@@ -21,7 +21,7 @@ use Rattle.steps.specs.declared.Place.{Place}
 use Rattle.steps.specs.declared.Wall.{Wall}
 use Rattle.steps.specs.declared.Wall.the-variants.{New, Start, Row, End, Over}
 use Rattle.file.proofs.Laws.Stands.{Ahead, step-ahead, step-stands}
-use Rattle.telling.specs.Text.{faulty-word, line-text}
+use Rattle.search_lines.specs.Text.{faulty-word, line-text}
 use Rattle.telling.specs.Telling.{first-marked, Telling, says, survey-says, row-says, step-says, telling}
 use Rattle.telling.specs.Said.{Said}
 
@@ -55,13 +55,6 @@ module _ (asked : List ℕ) (x : Wall) (m : ℕ) (ts bs : List ℕ) where
   pub told-on : number-shown (step-of x ts bs .shows) ≡ 0 → telling asked x m ts bs ≡ step-says asked x (step-of x ts bs .next) m ts bs
   unfolding telling
   told-on e = rw (eq-eqb (number-shown (step-of x ts bs .shows)) 0 e)
-
--- the rows that count
-pub counted : (n i : ℕ) (xs : List ℕ) → i ≡ min (length xs) n → take i xs ≡ take n xs
-counted n i xs e =
-    by-order (length xs) n
-    (λ j. let all : i ≡ length xs = omega (arith, e, j) in rw all (take-all (length xs) xs (omega arith) ∙ sym (take-all n xs j)))
-    (λ j. let some : i ≡ n = omega (arith, e, j) in rw some)
 
 -- the wall that is left is the step's, or over
 module _ (asked : List ℕ) where

@@ -1,4 +1,4 @@
--- `lines::line` meets its contract. The loop's invariant: the numbers passed are written. Assumes nothing.
+-- `line` meets its contract. The loop's invariant: the numbers passed are written. Assumes nothing.
 use mathlib.Core.Path.{_∙_, ap}
 use Prim.Native.Nat.{_-_, _≤_}
 use lib.ListN.{length, length-take, take, getD}
@@ -8,10 +8,10 @@ use borrow.Author.Needs.{needs}
 use Rattle.lines.specs.Wrote.{Wrote}
 use Rattle.lines.proofs.Laws.Number.{decimal-length}
 use Rattle.lines.proofs.Laws.Wrote.{wrote-none, wrote-then, wrote-as}
-use Rattle.telling.specs.Text.{numbers-text, line-text}
-use Rattle.telling.proofs.Laws.Text.{numbers-more, numbers-length, line-length}
-use Rattle.telling.proofs.line.line.Statement.{statement}
-use Rattle.telling.proofs.line.line.Tie as tie
+use Rattle.search_lines.specs.Text.{numbers-text, line-text}
+use Rattle.search_lines.proofs.Laws.{numbers-more, numbers-length, line-length}
+use Rattle.search_lines.proofs.line.Statement.{statement}
+use Rattle.search_lines.proofs.line.Tie as tie
 
 abbrev Inv-loop : tie.InvT-loop
 Inv-loop name values out₀ at end₀ i₀ out end i = (i ≤ length values) × Wrote out₀ end₀ (numbers-text (take i values)) out end

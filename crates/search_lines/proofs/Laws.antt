@@ -1,11 +1,12 @@
 -- Lines and their lengths. Assumes nothing.
 use mathlib.Core.Path.{_≡_, sym, _∙_, ap}
 use mathlib.Core.List.{List, [], _∷_, _++_, append-nil, append-assoc}
-use Prim.Native.Nat.{ℕ, _+_, _-_, _*_, _≤_, _<_}
+use Prim.Native.Nat.{ℕ, _+_, _-_, _*_, _≤_, _<_, min}
 use native.Mathlib.Numerals.{add-one}
 use native.Mathlib.Omega.{arith}
 use lib.ListN.{length, length-append, take, getD}
-use lib.Seq.{take-suc}
+use lib.Seq.{take-all, take-suc}
+use Rattle.settings.proofs.Laws.Cases.{by-order}
 use Rattle.settings.specs.declared.Settings.{Settings}
 use Rattle.reach.specs.Search.{reach-in-row}
 use Rattle.reach.specs.declared.Reached.{Reached}
@@ -13,7 +14,7 @@ use Rattle.reach.specs.declared.Reached.the-variants.{Within, Outside, Refused}
 use Rattle.lines.specs.Number.{decimal}
 use Rattle.lines.specs.Line.{space}
 use Rattle.lines.proofs.Laws.Number.{decimal-length}
-use Rattle.telling.specs.Text.{b-word, r-word, numbers-text, line-text, reach-text, reach-texts, gap-text}
+use Rattle.search_lines.specs.Text.{b-word, r-word, numbers-text, line-text, reach-text, reach-texts, gap-text}
 
 -- one more number of a line
 numbers-append : (ns : List ℕ) (n : ℕ) → numbers-text (ns ++ (n ∷ [])) ≡ numbers-text ns ++ (space ∷ decimal n)
@@ -63,3 +64,10 @@ pub gap-length : (s : Settings) (b f : ℕ) (ls : List ℕ) → length (gap-text
 unfolding gap-text
 gap-length s b f ls =
     omega (arith, texts-length s b f ls, line-length b-word (f ∷ b ∷ []), length-append (line-text b-word (f ∷ b ∷ [])) (reach-texts s b f ls))
+
+-- the rows that count
+pub counted : (n i : ℕ) (xs : List ℕ) → i ≡ min (length xs) n → take i xs ≡ take n xs
+counted n i xs e =
+    by-order (length xs) n
+    (λ j. let all : i ≡ length xs = omega (arith, e, j) in rw all (take-all (length xs) xs (omega arith) ∙ sym (take-all n xs j)))
+    (λ j. let some : i ≡ n = omega (arith, e, j) in rw some)

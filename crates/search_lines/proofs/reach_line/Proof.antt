@@ -1,12 +1,12 @@
--- `told::reach_line` meets its contract. Assumes nothing.
+-- `reach_line` meets its contract. Assumes nothing.
 use mathlib.Core.Path.{sym, _∙_, ap}
 use mathlib.Core.List.{[], _∷_}
 use Prim.Native.Nat.{ℕ}
 use Rattle.lines.proofs.Laws.Wrote.{wrote-none, wrote-as}
-use Rattle.telling.specs.Text.{r-word, line-text, reach-text}
+use Rattle.search_lines.specs.Text.{r-word, line-text, reach-text}
 use borrow.Author.Needs.{needs}
-use Rattle.telling.proofs.reach_line.Statement.{statement}
-use Rattle.telling.proofs.reach_line.Tie as tie
+use Rattle.search_lines.proofs.reach_line.Statement.{statement}
+use Rattle.search_lines.proofs.reach_line.Tie as tie
 
 reach-in-row-requires : tie.Need-reach-in-row-requires
 reach-in-row-requires c κs = search needs

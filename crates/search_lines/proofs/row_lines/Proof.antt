@@ -1,4 +1,4 @@
--- `told::row_lines` meets its contract. The loop's invariant: the lines of the rows passed are written. Assumes nothing.
+-- `row_lines` meets its contract. The loop's invariant: the lines of the rows passed are written. Assumes nothing.
 use mathlib.Core.Path.{_≡_, _∙_, ap}
 use Prim.Native.Nat.{_-_, _≤_, _<_, min}
 use lib.ListN.{length, length-take, take}
@@ -6,11 +6,10 @@ use native.Mathlib.Omega.{arith}
 use borrow.Author.Needs.{needs}
 use Rattle.lines.specs.Wrote.{Wrote}
 use Rattle.lines.proofs.Laws.Wrote.{wrote-none, wrote-then, wrote-as}
-use Rattle.telling.specs.Text.{reach-texts, gap-text}
-use Rattle.telling.proofs.Laws.Text.{texts-more, texts-length}
-use Rattle.telling.proofs.Laws.Telling.{counted}
-use Rattle.telling.proofs.row_lines.Statement.{statement}
-use Rattle.telling.proofs.row_lines.Tie as tie
+use Rattle.search_lines.specs.Text.{reach-texts, gap-text}
+use Rattle.search_lines.proofs.Laws.{texts-more, texts-length, counted}
+use Rattle.search_lines.proofs.row_lines.Statement.{statement}
+use Rattle.search_lines.proofs.row_lines.Tie as tie
 
 abbrev Inv-loop : tie.InvT-loop
 Inv-loop asked place gap out₀ at end₀ count i₀ out end i =

@@ -1,0 +1,130 @@
+// One call of the row operation, and what is seen of it.
+use crate::handed::drifts;
+use crate::handed::links;
+use crate::handed::marks;
+use crate::handed::times;
+use cases::Numbers;
+use row::Planned;
+use settings::Settings;
+ghost use Prim.Native.Nat.{_<_};
+
+pub struct Outcome {
+    // The number under which the call is turned away, or 0.
+    pub refusal: u64,
+    pub earliest: u64,
+    pub latest: u64,
+    pub digest: u64,
+    // Whether the row holds sevens throughout.
+    pub sevens: bool,
+}
+
+// A row's width, how much of each array is lent, and what the row holds before the call.
+struct Sizes {
+    width: u64,
+    times: usize,
+    marks: usize,
+    drifts: usize,
+    links: usize,
+    room: usize,
+    held: u64,
+}
+
+fn sized(kind: u8, n: Numbers) -> Sizes
+    ensures { λ r. ⌜ (r .times < 1024) × (r .marks < 1024) × (r .drifts < 1024) × (r .links < 1024) × (r .room < 1024) ⌝ }
+{
+    if kind == b'f' {
+        return of_width((n.0 % 257) as usize);
+    }
+    Sizes {
+        width: 6,
+        times: (n.0 % 1024) as usize,
+        marks: (n.1 % 1024) as usize,
+        drifts: (n.2 % 1024) as usize,
+        links: (n.3 % 1024) as usize,
+        room: (n.4 % 1024) as usize,
+        held: 7,
+    }
+}
+
+fn of_width(w: usize) -> Sizes
+    requires { ⌜ w < 257 ⌝ }
+    ensures { λ r. ⌜ (r .times < 1024) × (r .marks < 1024) × (r .drifts < 1024) × (r .links < 1024) × (r .room < 1024) ⌝ }
+{
+    Sizes {
+        width: w as u64,
+        times: w,
+        marks: (w + 7) / 8,
+        drifts: w,
+        links: 3 * w + 2,
+        room: w,
+        held: 0,
+    }
+}
+
+// Drifts up to 100 parts per million, so that clocks round.
+fn wall(width: u64) -> Settings {
+    Settings {
+        width,
+        rows: 1,
+        delay: 1000,
+        uncertainty: 10,
+        hold: 4000,
+        drift: 100,
+        unit: 13,
+    }
+}
+
+pub fn planned(kind: u8, n: Numbers) -> Outcome {
+    let size = sized(kind, n);
+    let before = times(kind, n.5, n.6);
+    let marks = marks(kind, n.1, n.7);
+    let drifts = drifts(kind, n.8);
+    let links = links(kind, n);
+    let mut row = [size.held; 1024];
+    let answer = row::plan(
+        wall(size.width),
+        &before[..size.times],
+        &marks[..size.marks],
+        &drifts[..size.drifts],
+        &links[..size.links],
+        &mut row[..size.room],
+    );
+    told(answer, look(&row))
+}
+
+fn told(answer: Planned, seen: Seen) -> Outcome {
+    match answer {
+        Planned::Row { earliest, latest } => Outcome {
+            refusal: 0,
+            earliest,
+            latest,
+            digest: seen.digest,
+            sevens: seen.sevens,
+        },
+        Planned::Refused(number) => Outcome {
+            refusal: number as u64,
+            earliest: 0,
+            latest: 0,
+            digest: seen.digest,
+            sevens: seen.sevens,
+        },
+    }
+}
+
+struct Seen {
+    // A number that changes with any time and its place.
+    digest: u64,
+    sevens: bool,
+}
+
+fn look(row: &[u64; 1024]) -> Seen {
+    let mut digest: u64 = 0;
+    let mut sevens = true;
+    let mut c = 0;
+    while c < 256 {
+        digest = (digest * 31 + row[c] % 65_537 + c as u64) % 4_294_967_291;
+        sevens = sevens & (row[c] == 7);
+        c += 1;
+    }
+    Seen { digest, sevens }
+}
