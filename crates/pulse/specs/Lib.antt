@@ -1,4 +1,5 @@
 pub mod Pulse
 pub mod Stampable
+pub mod Arranged
 pub mod Plain
 pub mod Tiles

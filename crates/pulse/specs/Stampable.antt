@@ -1,12 +1,13 @@
--- What the code asks of a link before it reads it. Assumes nothing.
+-- What the code asks of a link before it reads it, and the stamp that it makes of it. Assumes nothing.
 use mathlib.Core.Path.{_≡_}
 use mathlib.Core.Bool.{true, false}
 use mathlib.Core.List.{List}
-use Prim.Native.Nat.{ℕ, _-_, _/_, _≤_, _<_}
+use Prim.Native.Nat.{ℕ, _/_, _≤_, _<_}
 use lib.ListN.{length, getD}
-use Rattle.rule.specs.Stamp.{silence}
+use Rattle.rule.specs.Stamp.{silence, code-of}
 use Rattle.links.specs.Links.{latest-time}
 use Rattle.columns.specs.Marks.{marked}
+use Rattle.pulse.specs.Pulse.{arrives, read-at}
 
 -- what the code asks of a link before it reads it: what an accepted row has
 pub record Stampable (drift : ℕ) (before marks links : List ℕ) (sender place : ℕ) : Type 0 where
@@ -16,3 +17,7 @@ pub record Stampable (drift : ℕ) (before marks links : List ℕ) (sender place
   pub in-links : place < length links
   pub delay : marked marks sender ≡ false → (getD before sender 0 ≤ latest-time) × (getD links place 0 ≤ 1000000)
   pub faulty : marked marks sender ≡ true → (getD links place 0 ≡ silence → ⊥) → getD links place 0 ≤ latest-time
+
+-- its stamp, as a number
+unfoldable pub stamped : (drift : ℕ) → (before marks links : List ℕ) → (sender place : ℕ) → ℕ
+stamped p ts ms ls k i = code-of (read-at p 0 (arrives (marked ms k) (getD ts k 0) (getD ls i 0)))

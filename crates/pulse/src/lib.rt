@@ -1,5 +1,7 @@
 // The pulse of one tile of an accepted row.
 use columns::first_link;
+use columns::first_sender;
+use columns::four_senders;
 use columns::marked;
 use rule::clock;
 use rule::forwarding;
@@ -9,19 +11,18 @@ use settings::rounding::larger;
 use settings::rounding::smaller;
 ghost use mathlib.Core.Path.{_≡_};
 ghost use Prim.Native.Nat.{_+_, _≤_, _<_, min, max};
-ghost use lib.ListN.{getD};
 ghost use Rattle.rule.specs.Clock.{first-tick};
 ghost use Rattle.settings.specs.Settings.{step-of};
-ghost use Rattle.rule.specs.Stamp.{code-of, stamp-of};
+ghost use Rattle.rule.specs.Stamp.{stamp-of};
 ghost use Rattle.rule.specs.Closed.{closed-P, Forwardable};
 ghost use Rattle.admission.specs.Call.{call};
-ghost use Rattle.columns.specs.Marks.{marked};
-ghost use Rattle.pulse.specs.Pulse.{arrives, read-at, pulse};
+ghost use Rattle.pulse.specs.Pulse.{pulse};
 ghost use Rattle.admission.specs.Refusal.{row-refusal};
-ghost use Rattle.pulse.specs.Stampable.{Stampable};
+ghost use Rattle.pulse.specs.Stampable.{Stampable, stamped};
+ghost use Rattle.pulse.specs.Arranged.{arranged};
 ghost use Rattle.pulse.specs.Plain.{Receivable, Correct, received, correct-pulse};
 
-// By where a tile's neighbours stand: two beside it, or two or three at the ends of the row.
+// By the window of the tile's predecessors, three or four.
 pub fn pulse(
     settings: Settings,
     step: u64,
@@ -34,54 +35,90 @@ pub fn pulse(
     requires { ⌜ (row-refusal settings (now before) (call (now marks) (now drifts) (now links) (settings .width)) ≡ 0) × (step ≡ step-of settings) × (c < settings .width) ⌝ }
     ensures { λ r. ⌜ r ≡ pulse settings (now (before .entry)) (call (now (marks .entry)) (now (drifts .entry)) (now (links .entry)) (settings .width)) c ⌝ }
 {
-    let width = before.len();
+    let width = settings.width as usize;
     let drift = drifts[c] as u64;
+    let first = first_sender(width, c);
     let at = first_link(width, c);
-    if c == 0 {
-        let own = stamp(drift, before, marks, links, 0, at);
-        let a = stamp(drift, before, marks, links, 1, at + 1);
-        let b = stamp(drift, before, marks, links, 2, at + 2);
-        return of_two(settings, step, drift, own, a, b);
+    let place = c - first;
+    let x = stamp(drift, before, marks, links, first, at, 0);
+    let y = stamp(drift, before, marks, links, first, at, 1);
+    let z = stamp(drift, before, marks, links, first, at, 2);
+    if four_senders(width, c) {
+        let d = stamp(drift, before, marks, links, first, at, 3);
+        return among_four(settings, step, drift, place, x, y, z, d);
     }
-    if c == 2 {
-        let a = stamp(drift, before, marks, links, 0, at);
-        let b = stamp(drift, before, marks, links, 1, at + 1);
-        let own = stamp(drift, before, marks, links, 2, at + 2);
-        let d = stamp(drift, before, marks, links, 3, at + 3);
-        return of_three(settings, step, drift, own, a, b, d);
-    }
-    if c == width - 3 {
-        let a = stamp(drift, before, marks, links, c - 1, at);
-        let own = stamp(drift, before, marks, links, c, at + 1);
-        let b = stamp(drift, before, marks, links, c + 1, at + 2);
-        let d = stamp(drift, before, marks, links, c + 2, at + 3);
-        return of_three(settings, step, drift, own, a, b, d);
-    }
-    if c == width - 1 {
-        let a = stamp(drift, before, marks, links, c - 2, at);
-        let b = stamp(drift, before, marks, links, c - 1, at + 1);
-        let own = stamp(drift, before, marks, links, c, at + 2);
-        return of_two(settings, step, drift, own, a, b);
-    }
-    let a = stamp(drift, before, marks, links, c - 1, at);
-    let own = stamp(drift, before, marks, links, c, at + 1);
-    let b = stamp(drift, before, marks, links, c + 1, at + 2);
-    of_two(settings, step, drift, own, a, b)
+    among_three(settings, step, drift, place, x, y, z)
 }
 
-// The stamp of what a sender's link brings. A faulty sender's time is not read.
-fn stamp(drift: u64, before: &[u64], marks: &[u8], links: &[u64], sender: usize, at: usize) -> u64
-    requires { ⌜ Stampable drift (now before) (now marks) (now links) sender at ⌝ }
-    ensures { λ r. ⌜ r ≡ code-of (read-at drift 0 (arrives (marked (now (marks .entry)) sender) (getD (now (before .entry)) sender 0) (getD (now (links .entry)) at 0))) ⌝ }
+// The pulse of a tile with three predecessors, by their stamps in order, own's at the place.
+fn among_three(
+    settings: Settings,
+    step: u64,
+    drift: u64,
+    place: usize,
+    x: u64,
+    y: u64,
+    z: u64,
+) -> u64
+    requires { ⌜ arranged place (λ own a b. Forwardable (settings .unit) step own (min a b) (max a b)) x y z ⌝ }
+    requires { ⌜ (drift ≤ 10000) × (settings .hold ≤ 1000000) ⌝ }
+    ensures { λ r. ⌜ r ≡ arranged place (λ own a b. first-tick drift 0 (closed-P (settings .unit) step (stamp-of own) (stamp-of (min a b)) (stamp-of (max a b)) + settings .hold)) x y z ⌝ }
 {
-    let value = links[at];
+    if place == 0 {
+        return of_two(settings, step, drift, x, y, z);
+    }
+    if place == 1 {
+        return of_two(settings, step, drift, y, x, z);
+    }
+    of_two(settings, step, drift, z, x, y)
+}
+
+// The same with four. Own's is the second or the third.
+fn among_four(
+    settings: Settings,
+    step: u64,
+    drift: u64,
+    place: usize,
+    x: u64,
+    y: u64,
+    z: u64,
+    d: u64,
+) -> u64
+    requires { ⌜ arranged place (λ own a b. Forwardable (settings .unit) step own (min (min a b) d) (max (max a b) d)) x y z ⌝ }
+    requires { ⌜ (drift ≤ 10000) × (settings .hold ≤ 1000000) ⌝ }
+    requires { ⌜ 0 < place ⌝ }
+    ensures { λ r. ⌜ r ≡ arranged place (λ own a b. first-tick drift 0 (closed-P (settings .unit) step (stamp-of own) (stamp-of (min (min a b) d)) (stamp-of (max (max a b) d)) + settings .hold)) x y z ⌝ }
+{
+    if place == 1 {
+        return of_three(settings, step, drift, y, x, z, d);
+    }
+    of_three(settings, step, drift, z, x, y, d)
+}
+
+// The stamp of what a sender's link brings, by the sender's place in the window, whose first column
+// and first link are given. A faulty sender's time is not read.
+fn stamp(
+    drift: u64,
+    before: &[u64],
+    marks: &[u8],
+    links: &[u64],
+    first: usize,
+    at: usize,
+    place: usize,
+) -> u64
+    requires { ⌜ Stampable drift (now before) (now marks) (now links) (first + place) (at + place) ⌝ }
+    ensures { λ r. ⌜ r ≡ stamped drift (now (before .entry)) (now (marks .entry)) (now (links .entry)) (first + place) (at + place) ⌝ }
+{
+    let sender = first + place;
+    let link = at + place;
     if marked(marks, sender) {
-        if value == SILENT {
+        let arrival = links[link];
+        if arrival == SILENT {
             return SILENT;
         }
-        return clock::reading(drift, value);
+        return clock::reading(drift, arrival);
     }
-    received(drift, before, links, sender, at)
+    received(drift, before, links, sender, link)
 }
 
 // The stamp of a correct sender's pulse.

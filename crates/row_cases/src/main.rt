@@ -29,14 +29,14 @@ fn run(text: &[u8]) {
 fn case(line: &[u8]) {
     let case = cases::read(line);
     let kind = case.kind;
-    let n = case.numbers;
     if kind != b'#' {
+        let given = planned(kind, case.numbers);
         tell(
             line,
             kind,
-            fits(kind, case.count, n),
-            n.11,
-            planned(kind, n),
+            fits(kind, case.count, case.numbers),
+            case.numbers.11,
+            given,
         );
     }
 }
@@ -52,16 +52,21 @@ fn fits(kind: u8, count: usize, n: Numbers) -> bool {
 }
 
 // Writes the earliest and latest time and the digest of a row with a faulty tile, or whether a call
-// came out: turned away with the number that is expected, which leaves the sevens that the row held,
-// or accepted where that is 0.
+// came out.
 fn tell(line: &[u8], kind: u8, fits: bool, expected: u64, given: Outcome) {
     if kind == b'f' && fits && given.refusal == 0 {
         cases::label(line);
         write(given.earliest, given.latest, given.digest);
     } else {
-        let right = given.refusal == expected && given.sevens == (expected != 0);
+        let right = right(expected, given.refusal, given.sevens);
         cases::report(line, kind == b'p' && fits && right);
     }
+}
+
+// Whether a call was turned away with the number that is expected, which leaves the sevens that the
+// row held, or accepted where that is 0.
+fn right(expected: u64, refusal: u64, sevens: bool) -> bool {
+    refusal == expected && sevens == (expected != 0)
 }
 
 fn write(earliest: u64, latest: u64, digest: u64) {

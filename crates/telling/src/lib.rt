@@ -12,7 +12,6 @@ ghost use mathlib.Core.Bool.{true};
 ghost use Prim.Native.Nat.{_+_, _≤_};
 ghost use lib.ListN.{length, take};
 ghost use Rattle.columns.specs.Marks.{mark-bytes};
-ghost use Rattle.lines.specs.Wrote.{Wrote};
 ghost use Rattle.steps.specs.Step.{step-of};
 ghost use Rattle.steps.specs.Fit.{place-fits, wall-fits};
 ghost use Rattle.lines.specs.Row.{step-room};

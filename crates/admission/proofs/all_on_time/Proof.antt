@@ -1,4 +1,4 @@
--- `row::refusal::all_on_time` meets its contract. The loop's invariant: no time passed is over the bits of all of them. Assumes nothing.
+-- `all_on_time` meets its contract. The loop's invariant: no time passed is over the bits of all of them. Assumes nothing.
 use Prim.Native.Nat.{ℕ, _-_, _≤_, _<_}
 use lib.Bits.{bitOr, or-add-and, and-le-l, and-le-r}
 use lib.ListN.{length, getD}

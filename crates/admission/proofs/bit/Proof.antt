@@ -1,4 +1,4 @@
--- `row::refusal::bit` meets its contract: a digit is one where its column is marked, and zero elsewhere. Assumes nothing.
+-- `bit` meets its contract: a digit is one where its column is marked, and zero elsewhere. Assumes nothing.
 use mathlib.Core.Path.{sym, _∙_}
 use borrow.Author.Needs.{needs}
 use Rattle.admission.proofs.bit.Statement.{statement}

@@ -1,4 +1,4 @@
--- `row::refusal::crowded` meets its contract. The loop's invariant: no column passed is crowded;
+-- `crowded` meets its contract. The loop's invariant: no column passed is crowded;
 -- those of a quiet byte are passed together. Assumes nothing.
 use mathlib.Core.Path.{_≡_, sym}
 use mathlib.Core.Bool.{false}

@@ -1,4 +1,4 @@
--- `row::refusal::fast` meets its contract. The loop's invariant: a column passed is fast where the largest drift of them is.
+-- `fast` meets its contract. The loop's invariant: a column passed is fast where the largest drift of them is.
 -- Assumes nothing.
 use mathlib.Core.Path.{_≡_, sym}
 use mathlib.Core.Bool.{_||_, or-true, or-false}

@@ -1,4 +1,4 @@
--- `row::refusal::gathered` meets its contract: its digits are the marks of the window. Assumes nothing.
+-- `gathered` meets its contract: its digits are the marks of the window. Assumes nothing.
 use mathlib.Core.Path.{_≡_, sym, _∙_}
 use mathlib.Core.Bool.{Bool, true, cond}
 use Prim.Native.Nat.{ℕ, _+_, _≤_, _<_}

@@ -1,4 +1,4 @@
--- `row::refusal::late_time` meets its contract. The loop's invariant: no column passed is late. Assumes nothing.
+-- `late_time` meets its contract. The loop's invariant: no column passed is late. Assumes nothing.
 use mathlib.Core.Path.{_≡_, sym, _∙_}
 use mathlib.Core.Bool.{true, false, not, and-false}
 use mathlib.Core.Logic.{⊎-elim}

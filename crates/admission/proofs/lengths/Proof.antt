@@ -1,4 +1,4 @@
--- `row::refusal::lengths` meets its contract: its tests are the definition's. Assumes nothing.
+-- `lengths` meets its contract: its tests are the definition's. Assumes nothing.
 use Prim.Native.Nat.{_+_, _*_, _/_}
 use borrow.Author.Tests.{eq-eqb, ne-eqb}
 use Rattle.columns.specs.Marks.{mark-bytes}

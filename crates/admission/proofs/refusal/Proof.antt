@@ -1,4 +1,4 @@
--- `row::refusal::refusal` meets its contract: the settings' number, then each test that was passed does not apply. Assumes nothing.
+-- `refusal` meets its contract: the settings' number, then each test that was passed does not apply. Assumes nothing.
 use mathlib.Core.Path.{_≡_, refl, sym, _∙_}
 use Prim.Native.Nat.{ℕ}
 use lib.ListN.{length, drop}

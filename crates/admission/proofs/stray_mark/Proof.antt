@@ -1,4 +1,4 @@
--- `row::refusal::stray_mark` meets its contract. The loop's invariant: no column passed is marked past the last. Assumes nothing.
+-- `stray_mark` meets its contract. The loop's invariant: no column passed is marked past the last. Assumes nothing.
 use mathlib.Core.Path.{_≡_, sym, _∙_}
 use mathlib.Core.Bool.{false}
 use Prim.Native.Nat.{_*_, _-_, _≤_}

@@ -1,4 +1,4 @@
--- `row::columns::first_link` meets its contract: each return is a case of the closed form. Assumes nothing.
+-- `first_link` meets its contract: each return is a case of the closed form. Assumes nothing.
 use mathlib.Core.Path.{sym}
 use native.Mathlib.Omega.{arith}
 use Rattle.columns.proofs.Laws.Columns.{links-early, links-inner, links-late}

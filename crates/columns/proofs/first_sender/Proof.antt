@@ -1,4 +1,4 @@
--- `row::columns::first_sender` meets its contract: its tests are the definition's. Assumes nothing.
+-- `first_sender` meets its contract: its tests are the definition's. Assumes nothing.
 use Prim.Native.Nat.{_-_}
 use borrow.Author.Tests.{le-leb, lt-leb}
 use Rattle.columns.specs.Window.{first-sender}

@@ -1,4 +1,4 @@
--- `row::columns::four_senders` meets its contract: its tests are the definition's. Assumes nothing.
+-- `four_senders` meets its contract: its tests are the definition's. Assumes nothing.
 use borrow.Author.Tests.{eq-eqb, ne-eqb}
 use Rattle.columns.specs.Window.{four-senders}
 use borrow.Author.Needs.{needs}

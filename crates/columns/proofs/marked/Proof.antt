@@ -1,4 +1,4 @@
--- `row::columns::marked` meets its contract: it is the definition. Assumes nothing.
+-- `marked` meets its contract: it is the definition. Assumes nothing.
 use mathlib.Core.Path.{refl}
 use Rattle.columns.specs.Marks.{marked}
 use borrow.Author.Needs.{needs}

@@ -1,4 +1,4 @@
--- `row::columns::plain` meets its contract: it tests what a plain stretch is. Assumes nothing.
+-- `plain` meets its contract: it tests what a plain stretch is. Assumes nothing.
 use mathlib.Core.Path.{sym, _∙_}
 use mathlib.Core.Bool.{true≢false}
 use native.Mathlib.Omega.{arith}

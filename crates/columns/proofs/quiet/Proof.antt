@@ -1,4 +1,4 @@
--- `row::columns::quiet` meets its contract: it tests what a quiet byte is. Assumes nothing.
+-- `quiet` meets its contract: it tests what a quiet byte is. Assumes nothing.
 use mathlib.Core.Path.{sym}
 use mathlib.Core.Bool.{true≢false}
 use Prim.Native.Nat.{_/_}

@@ -1,4 +1,4 @@
--- `contents::late_start` meets its contract. The loop's invariant: no time passed is late. Assumes nothing.
+-- `late_start` meets its contract. The loop's invariant: no time passed is late. Assumes nothing.
 use mathlib.Core.Path.{_≡_, sym}
 use mathlib.Core.Bool.{false}
 use Prim.Native.Nat.{_-_, _≤_}

@@ -1,4 +1,4 @@
--- `contents::settings` meets its contract: each number is that of its place. Assumes nothing.
+-- `settings` meets its contract: each number is that of its place. Assumes nothing.
 use mathlib.Core.Path.{_∙_}
 use Rattle.contents.specs.Contents.{settings-in}
 use borrow.Author.Needs.{needs}

@@ -1,4 +1,4 @@
--- `contents::tile` meets its contract: the three or four places written hold the tile's link values. Assumes nothing.
+-- `tile` meets its contract: the three or four places written hold the tile's link values. Assumes nothing.
 use mathlib.Core.Path.{_≡_, sym, _∙_}
 use mathlib.Core.Bool.{true}
 use lib.ListN.{length-set}

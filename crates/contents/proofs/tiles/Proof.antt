@@ -1,4 +1,4 @@
--- `contents::tiles` meets its contract. The loop's invariant: the drifts and links of the tiles passed are written. Assumes nothing.
+-- `tiles` meets its contract. The loop's invariant: the drifts and links of the tiles passed are written. Assumes nothing.
 use mathlib.Core.Path.{_≡_, refl, sym, _∙_, ap}
 use mathlib.Core.List.{List, _++_}
 use Prim.Native.Nat.{ℕ, _+_, _-_, _*_, _≤_}

@@ -1,4 +1,4 @@
--- `contents::times` meets its contract. The loop's invariant: the places passed hold their times. Assumes nothing.
+-- `times` meets its contract. The loop's invariant: the places passed hold their times. Assumes nothing.
 use Prim.Native.Nat.{_-_, _*_}
 use lib.ListN.{length}
 use native.Mathlib.Omega.{arith}

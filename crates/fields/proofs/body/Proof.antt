@@ -1,4 +1,4 @@
--- `field::body` meets its contract: at each `return` the tests that led there say how much of the body is there.
+-- `body` meets its contract: at each `return` the tests that led there say how much of the body is there.
 -- Assumes nothing.
 use mathlib.Core.Path.{sym}
 use native.Mathlib.Omega.{arith}

@@ -1,4 +1,4 @@
--- `field::refusal` meets its contract: at each `return` the tests passed and the one met. Assumes nothing.
+-- `refusal` meets its contract: at each `return` the tests passed and the one met. Assumes nothing.
 use mathlib.Core.Path.{sym, _∙_}
 use native.Mathlib.Omega.{arith}
 use Rattle.fields.proofs.Laws.Field.{few-left, other-tag, other-size, body-cut, whole}

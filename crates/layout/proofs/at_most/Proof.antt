@@ -1,4 +1,4 @@
--- `words::at_most` meets its contract. Assumes nothing.
+-- `at_most` meets its contract. Assumes nothing.
 use borrow.Author.Tests.{lt-ltb, le-ltb}
 use native.Mathlib.Omega.{arith}
 use Rattle.layout.specs.Words.{at-most}

@@ -1,4 +1,4 @@
--- `words::place_in` meets its contract. Assumes nothing.
+-- `place_in` meets its contract. Assumes nothing.
 use mathlib.Core.Path.{refl}
 use Rattle.settings.specs.Settings.{settings}
 use Rattle.steps.specs.Step.{place}

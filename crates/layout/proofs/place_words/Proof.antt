@@ -1,4 +1,4 @@
--- `words::place_words` meets its contract. Assumes nothing.
+-- `place_words` meets its contract. Assumes nothing.
 use mathlib.Core.Path.{refl}
 use Rattle.layout.specs.Words.{place-words}
 use Rattle.layout.proofs.place_words.Statement.{statement}

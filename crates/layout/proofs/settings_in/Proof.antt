@@ -1,4 +1,4 @@
--- `words::settings_in` meets its contract. Assumes nothing.
+-- `settings_in` meets its contract. Assumes nothing.
 use mathlib.Core.Path.{refl}
 use Rattle.settings.specs.Settings.{settings}
 use Rattle.layout.specs.Words.{settings-from}

@@ -1,4 +1,4 @@
--- `words::side` meets its contract. Assumes nothing.
+-- `side` meets its contract. Assumes nothing.
 use Rattle.layout.specs.Words.{side-word}
 use borrow.Author.Needs.{needs}
 use Rattle.layout.proofs.side.Statement.{statement}

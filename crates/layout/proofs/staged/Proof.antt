@@ -1,4 +1,4 @@
--- `words::staged` meets its contract. Assumes nothing.
+-- `staged` meets its contract. Assumes nothing.
 use borrow.Author.Tests.{ne-eqb}
 use Rattle.layout.specs.Words.{staged}
 use Rattle.layout.proofs.staged.Statement.{statement}

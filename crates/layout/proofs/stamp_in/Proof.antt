@@ -1,4 +1,4 @@
--- `words::stamp_in` meets its contract. Assumes nothing.
+-- `stamp_in` meets its contract. Assumes nothing.
 use mathlib.Core.Path.{_∙_, ap}
 use Prim.Native.Nat.{_<_}
 use lib.IntN.{pos}

@@ -1,4 +1,4 @@
--- `words::stamps_in` meets its contract. Assumes nothing.
+-- `stamps_in` meets its contract. Assumes nothing.
 use mir.Syntax.{w64}
 use mir.ValLaws.{toZ-ofZ}
 use native.Mathlib.Omega.{arith}

@@ -1,4 +1,4 @@
--- `words::wall_in` meets its contract. Assumes nothing.
+-- `wall_in` meets its contract. Assumes nothing.
 use mathlib.Core.Path.{_∙_}
 use Rattle.layout.specs.Words.{wall-in}
 use borrow.Author.Needs.{needs}

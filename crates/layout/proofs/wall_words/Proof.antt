@@ -1,4 +1,4 @@
--- `words::wall_words` meets its contract. Assumes nothing.
+-- `wall_words` meets its contract. Assumes nothing.
 use mathlib.Core.Path.{sym, _∙_}
 use Rattle.layout.specs.Words.{wall-words}
 use borrow.Author.Needs.{needs}

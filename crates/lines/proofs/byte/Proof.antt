@@ -1,4 +1,4 @@
--- `text::number::byte` meets its contract. Assumes nothing.
+-- `byte` meets its contract. Assumes nothing.
 use native.Mathlib.Omega.{arith}
 use borrow.Author.Needs.{needs}
 use Rattle.lines.proofs.Laws.Wrote.{wrote-byte}

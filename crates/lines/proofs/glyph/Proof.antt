@@ -1,4 +1,4 @@
--- `text::number::glyph` meets its contract. Assumes nothing.
+-- `glyph` meets its contract. Assumes nothing.
 use mathlib.Core.Path.{sym}
 use borrow.Author.Needs.{needs}
 use Rattle.lines.proofs.Laws.Number.{glyph-low}

@@ -1,4 +1,4 @@
--- `text::refused_line` meets its contract. Assumes nothing.
+-- `refused_line` meets its contract. Assumes nothing.
 use native.Mathlib.Omega.{arith}
 use borrow.Author.Needs.{needs}
 use Rattle.lines.proofs.Laws.Wrote.{wrote-then}

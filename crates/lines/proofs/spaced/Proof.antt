@@ -1,4 +1,4 @@
--- `text::number::spaced` meets its contract. Assumes nothing.
+-- `spaced` meets its contract. Assumes nothing.
 use borrow.Author.Needs.{needs}
 use Rattle.lines.proofs.Laws.Wrote.{wrote-then}
 use Rattle.lines.proofs.spaced.Statement.{statement}

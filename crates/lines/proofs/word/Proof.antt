@@ -1,4 +1,4 @@
--- `text::number::word` meets its contract. The loop's invariant: what was passed of the text is written. Assumes nothing.
+-- `word` meets its contract. The loop's invariant: what was passed of the text is written. Assumes nothing.
 use Prim.Native.Nat.{_+_, _-_, _≤_}
 use lib.ListN.{length, take}
 use lib.Seq.{take-all}

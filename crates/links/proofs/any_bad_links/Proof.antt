@@ -1,4 +1,4 @@
--- `row::links::any_bad_links` meets its contract. The loop's invariant: no column passed has a bad link. Assumes nothing.
+-- `any_bad_links` meets its contract. The loop's invariant: no column passed has a bad link. Assumes nothing.
 use mathlib.Core.Path.{_≡_, sym, _∙_}
 use mathlib.Core.Bool.{false}
 use mathlib.Core.Logic.{⊎-elim}

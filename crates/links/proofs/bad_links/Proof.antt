@@ -1,4 +1,4 @@
--- `row::links::bad_links` meets its contract: each link that it looks at is one of the window's. Assumes nothing.
+-- `bad_links` meets its contract: each link that it looks at is one of the window's. Assumes nothing.
 use mathlib.Core.Path.{_≡_, sym, _∙_, subst}
 use mathlib.Core.Bool.{Bool, true, false, cond, _||_}
 use Prim.Native.Nat.{_+_, _/_, _≤_, _<_}

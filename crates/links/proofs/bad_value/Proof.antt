@@ -1,4 +1,4 @@
--- `row::links::bad_value` meets its contract: its tests are the definition's. Assumes nothing.
+-- `bad_value` meets its contract: its tests are the definition's. Assumes nothing.
 use borrow.Author.Tests.{eq-eqb, ne-eqb}
 use Rattle.rule.specs.Stamp.{silence}
 use Rattle.links.specs.Links.{bad-value}

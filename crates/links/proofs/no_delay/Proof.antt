@@ -1,4 +1,4 @@
--- `row::links::no_delay` meets its contract: the difference to the shortest delay is over u where the value is above the
+-- `no_delay` meets its contract: the difference to the shortest delay is over u where the value is above the
 -- longest, and where it wraps. Assumes nothing.
 use mathlib.Core.Path.{_≡_, sym}
 use Prim.Native.Nat.{ℕ, _+_, _-_, _%_, _^_, _≤_, _<_}

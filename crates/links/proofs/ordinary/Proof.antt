@@ -1,4 +1,4 @@
--- `row::links::ordinary` meets its contract: three values that are delays are never bad. Assumes nothing.
+-- `ordinary` meets its contract: three values that are delays are never bad. Assumes nothing.
 use mathlib.Core.Path.{_≡_, sym, _∙_}
 use mathlib.Core.Bool.{true≢false}
 use Prim.Native.Nat.{_-_, _≤_, _<_}

@@ -18,7 +18,11 @@ use Rattle.pulse.specs.Plain.{Receivable, received, from-left, from-own,
 use Rattle.columns.proofs.Laws.Columns.{links-inner, neighbours-inner}
 use Rattle.admission.proofs.Laws.Accepted.{Accepted}
 use Rattle.admission.proofs.Laws.Quiet.{quiet-column}
-use Rattle.pulse.proofs.Laws.Stampable.{Sender, at-inner, stampable, code, code-correct, Pulsing, pulse-two, ready-at, pulses-at}
+use Rattle.columns.specs.Columns.{links-before}
+use Rattle.columns.specs.Window.{first-sender}
+use Rattle.columns.proofs.Laws.Window.{sender-inner}
+use Rattle.pulse.proofs.Laws.Senders.{Sender, sender}
+use Rattle.pulse.proofs.Laws.Stampable.{stamped-correct, stampable, code, Pulsing, pulse-two, ready-at, pulses-at}
 
 pub plain-column : {w : ℕ} {ms : List ℕ} {c : ℕ} → Plain w ms c → (k : ℕ) → c ≤ k + 1 → k ≤ c + 8 → marked ms k ≡ false
 plain-column {w} {ms} {c} p k i j =
@@ -49,8 +53,13 @@ module _ {s : Settings} {ts : List ℕ} {x : Call} (r : Accepted s ts x) {c : �
   senders : Sender (s .width) k (k - 1) (3 * k + 1) × Sender (s .width) k k (3 * k + 1 + 1) × Sender (s .width) k (k + 1) (3 * k + 1 + 2)
   senders =
       let a = away in
-      at-inner (s .width) k (3 * k + 1) (bounds .width .0) here (sym (links-inner (s .width) (bounds .width .0) k (omega arith) (omega arith)))
-      (omega arith) (omega arith) (omega arith) (omega arith)
+      let from : first-sender (s .width) k ≡ k - 1 = sender-inner (s .width) k (omega arith) (omega arith) in
+      let at : links-before (s .width) k ≡ 3 * k + 1 = links-inner (s .width) (bounds .width .0) k (omega arith) (omega arith) in
+      let wide = bounds .width .0 in (
+        sender (s .width) k wide here 0 (omega arith) (omega arith) (omega arith),
+        sender (s .width) k wide here 1 (omega arith) (omega arith) (omega arith),
+        sender (s .width) k wide here 2 (omega arith) (omega arith) (omega arith),
+      )
 
   receivable : {n q : ℕ} → Sender (s .width) k n q → marked (x .marks) n ≡ false → Receivable drift ts (x .links) n q
   receivable e m =
@@ -58,8 +67,7 @@ module _ {s : Settings} {ts : List ℕ} {x : Call} (r : Accepted s ts x) {c : �
       record { slow = t .slow; in-row = t .in-row; in-links = t .in-links; time = t .delay m .0; delay = t .delay m .1 }
 
   heard : {n q : ℕ} → Sender (s .width) k n q → marked (x .marks) n ≡ false → received drift ts (x .links) n q ≡ code-of (stamp (s .width) ts x k n)
-  unfolding received
-  heard {n} {q} e m = sym (code-correct drift (getD ts n 0) (getD (x .links) q 0) m) ∙ code r k here e
+  heard {n} {q} e m = sym (stamped-correct drift ts (x .marks) (x .links) n q m) ∙ code r k here e
 
   correct-left : marked (x .marks) (k - 1) ≡ false
   correct-left = plain-column p (k - 1) (omega (arith, away .past)) (omega arith)
@@ -78,7 +86,7 @@ module _ {s : Settings} {ts : List ℕ} {x : Call} (r : Accepted s ts x) {c : �
       let a = away in
       let e = senders in
       pulse-two r k here (neighbours-inner (s .width) (bounds .width .0) k (omega arith) (omega arith) (omega arith) (omega arith))
-      (e .0) (e .2) (heard (e .1) correct-own) (heard (e .0) correct-left) (heard (e .2) correct-right)
+      (heard (e .1) correct-own) (heard (e .0) correct-left) (heard (e .2) correct-right)
 
   module _ (step : ℕ) (e : step ≡ step-of s) where
     pub plain-tile : Correct s step drift ts (x .links) k

@@ -20,11 +20,14 @@ use Rattle.rule.proofs.Laws.Coded.{stamp-silent, stamp-heard}
 use Rattle.columns.specs.Columns.{are-neighbours, columns-from, neighbours, is-predecessor, predecessors, link}
 use Rattle.admission.specs.Call.{Call}
 use Rattle.links.specs.Links.{latest-time}
+use Rattle.columns.specs.Window.{four-senders}
 use Rattle.columns.specs.Marks.{marked, faulty-among}
 use Rattle.pulse.specs.Pulse.{arrives, arrival, read-at, stamp}
-use Rattle.columns.proofs.Laws.Columns.{beside, strangers, Column, first, third, third-from-last, last, inner, column, neighbours-first, neighbours-third, neighbours-third-last, neighbours-last, neighbours-inner}
+use Rattle.columns.proofs.Laws.Columns.{beside, strangers}
 use Rattle.columns.proofs.Laws.Lists.{by-test, columns-all}
 use Rattle.admission.proofs.Laws.Accepted.{Accepted}
+use Rattle.pulse.proofs.Laws.Arranged.{wherever}
+use Rattle.pulse.proofs.Laws.Senders.{placed}
 
 -- 1 for a faulty column
 abbrev pub one : (marks : List ℕ) → ℕ → ℕ
@@ -144,24 +147,13 @@ module _ {s : Settings} {ts : List ℕ} {x : Call} (r : Accepted s ts x) (c : �
 
 -- every column has two neighbours or three
 pub two-neighbours : {w c : ℕ} (f : ℕ → Stamp) → 6 ≤ w → c < w → 2 ≤ length (map f (neighbours w c))
-two-neighbours {w} {c} f wide i = pick (column w c i)
-  where
-    pick : Column w c → 2 ≤ length (map f (neighbours w c))
-    pick (first e) = rw (e, neighbours-first w wide) (omega arith)
-    pick (third e) = rw (e, neighbours-third w wide) (omega arith)
-    pick (third-from-last e) = rw (neighbours-third-last w wide c e) (omega arith)
-    pick (last e) = rw (neighbours-last w wide c e) (omega arith)
-    pick (inner a b d e) = rw (neighbours-inner w wide c a b d e) (omega arith)
+two-neighbours {w} {c} f wide i = wherever _ _ _ _ (λ own a b e. rw (e .1) (omega arith)) (placed w c wide i)
 
 pub at-most-three : {w c : ℕ} (f : ℕ → Stamp) → 6 ≤ w → c < w → length (map f (neighbours w c)) ≤ 3
-at-most-three {w} {c} f wide i = pick (column w c i)
-  where
-    pick : Column w c → length (map f (neighbours w c)) ≤ 3
-    pick (first e) = rw (e, neighbours-first w wide) (omega arith)
-    pick (third e) = rw (e, neighbours-third w wide) (omega arith)
-    pick (third-from-last e) = rw (neighbours-third-last w wide c e) (omega arith)
-    pick (last e) = rw (neighbours-last w wide c e) (omega arith)
-    pick (inner a b d e) = rw (neighbours-inner w wide c a b d e) (omega arith)
+at-most-three {w} {c} f wide i =
+    by-test (four-senders w c)
+    (λ q. wherever _ _ _ _ (λ own a b e. rw (e .1, q) (omega arith)) (placed w c wide i))
+    (λ q. wherever _ _ _ _ (λ own a b e. rw (e .1, q) (omega arith)) (placed w c wide i))
 
 pub tile-of : {s : Settings} {ts : List ℕ} {x : Call} → Accepted s ts x → (c : ℕ) → c < s .width → (f : ℕ → Stamp) → Tile s (map f (neighbours (s .width) c))
 tile-of {s} r c i f = record { checked = r .settings; two = two-neighbours f (limits s (r .settings) .width .0) i }

@@ -1,4 +1,4 @@
--- `row::pulse::correct` meets its contract: the stamps are those of three links, and the pulse that of two neighbours. Assumes nothing.
+-- `correct` meets its contract: the stamps are those of three links, and the pulse that of two neighbours. Assumes nothing.
 use native.Mathlib.Omega.{arith}
 use Rattle.pulse.specs.Plain.{correct-pulse}
 use Rattle.pulse.proofs.correct.Statement.{statement}

@@ -1,4 +1,4 @@
--- `row::pulse::of_three` meets its contract: the rule's P from three neighbours, and the first tick that reads P and the hold. Assumes nothing.
+-- `of_three` meets its contract: the rule's P from three neighbours, and the first tick that reads P and the hold. Assumes nothing.
 use mathlib.Core.Path.{_≡_}
 use Prim.Native.Nat.{_≤_, min, max}
 use native.Mathlib.Omega.{arith}

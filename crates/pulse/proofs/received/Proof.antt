@@ -1,4 +1,4 @@
--- `row::pulse::received` meets its contract: it is the reading at the arrival. Assumes nothing.
+-- `received` meets its contract: it is the reading at the arrival. Assumes nothing.
 use native.Mathlib.Omega.{arith}
 use borrow.Author.Needs.{needs}
 use Rattle.pulse.specs.Plain.{received}

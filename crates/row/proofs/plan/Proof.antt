@@ -1,4 +1,4 @@
--- `row::plan` meets its contract. The loop's invariant: the places passed hold their tiles' pulses, and `earliest` and `latest` are
+-- `plan` meets its contract. The loop's invariant: the places passed hold their tiles' pulses, and `earliest` and `latest` are
 -- the least and the most of them. Assumes nothing.
 use mathlib.Core.Path.{_≡_, sym, _∙_, ap, subst}
 use mathlib.Core.List.{List}

@@ -1,4 +1,4 @@
--- `row_step::plan_in` meets its contract: the tiles' field, then the row operation's answer. Assumes nothing.
+-- `plan_in` meets its contract: the tiles' field, then the row operation's answer. Assumes nothing.
 use mathlib.Core.Path.{_≡_, sym, _∙_, ap}
 use Prim.Native.Nat.{_+_, _*_, _/_, _≤_}
 use lib.ListN.{length}

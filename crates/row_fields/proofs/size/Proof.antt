@@ -1,4 +1,4 @@
--- `row_step::size` meets its contract. Assumes nothing.
+-- `size` meets its contract. Assumes nothing.
 use mathlib.Core.Path.{refl}
 use Rattle.columns.specs.Marks.{mark-bytes}
 use Rattle.contents.specs.Contents.{marks-field, row-size}

@@ -1,4 +1,4 @@
--- `seam::join` meets its contract: its tests are the definition's. Assumes nothing.
+-- `join` meets its contract: its tests are the definition's. Assumes nothing.
 use mathlib.Core.Path.{_≡_, sym, _∙_, ap}
 use mathlib.Core.Bool.{false}
 use borrow.Author.Needs.{needs}

@@ -1,4 +1,4 @@
--- `seam::refused` meets its contract: the code is the definition. Assumes nothing.
+-- `refused` meets its contract: the code is the definition. Assumes nothing.
 use mathlib.Core.Path.{refl}
 use Rattle.seam.specs.Seam.{late}
 use Rattle.seam.proofs.refused.Statement.{statement}

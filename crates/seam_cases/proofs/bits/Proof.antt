@@ -1,4 +1,4 @@
--- `seam_cases::bits` meets its contract: what equals itself is a number, and has a bit pattern. Assumes nothing.
+-- `bits` meets its contract: what equals itself is a number, and has a bit pattern. Assumes nothing.
 use mathlib.Core.Path.{sym, subst}
 use mathlib.Core.Bool.{not}
 use lib.Dec.{T}

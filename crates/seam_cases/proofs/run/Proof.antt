@@ -1,4 +1,4 @@
--- `seam_cases::run` is safe and ends. Assumes nothing.
+-- `run` is safe and ends. Assumes nothing.
 use Prim.Native.Nat.{_-_}
 use lib.ListN.{length}
 use borrow.Author.Needs.{needs}

@@ -1,4 +1,4 @@
--- `text::seams::closed_words` meets its contract: the seam of two times that are not late is closed. Assumes nothing.
+-- `closed_words` meets its contract: the seam of two times that are not late is closed. Assumes nothing.
 use mathlib.Core.Path.{_≡_, sym, _∙_, ap}
 use mathlib.Core.Bool.{false}
 use mathlib.Core.List.{[], _∷_, _++_}

@@ -1,4 +1,4 @@
--- `text::seams::halves_words` meets its contract. Assumes nothing.
+-- `halves_words` meets its contract. Assumes nothing.
 use borrow.Author.Needs.{needs}
 use Rattle.seam_lines.proofs.Laws.Halves.{room-third, room-fourth, room-last, halves-long, wrote-halves}
 use Rattle.seam_lines.proofs.halves_words.Statement.{statement}

@@ -1,4 +1,4 @@
--- `text::seams::in_time` meets its contract. Assumes nothing.
+-- `in_time` meets its contract. Assumes nothing.
 use borrow.Author.Tests.{le-leb, lt-leb}
 use Rattle.seam.specs.Seam.{latest}
 use Rattle.seam_lines.proofs.in_time.Statement.{statement}

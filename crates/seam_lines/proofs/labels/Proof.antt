@@ -1,4 +1,4 @@
--- `text::seams::labels` meets its contract. Assumes nothing.
+-- `labels` meets its contract. Assumes nothing.
 use native.Mathlib.Omega.{arith}
 use borrow.Author.Needs.{needs}
 use Rattle.words.proofs.Laws.Columns.{column-short, labels-room, labels-end, wrote-labels}

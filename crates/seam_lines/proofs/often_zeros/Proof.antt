@@ -1,4 +1,4 @@
--- `text::seams::often_zeros` meets its contract. Assumes nothing.
+-- `often_zeros` meets its contract. Assumes nothing.
 use mathlib.Core.Path.{refl}
 use borrow.Author.Needs.{needs}
 use Rattle.lines.specs.Number.{glyph, hexadecimal}

@@ -1,4 +1,4 @@
--- `text::seams::open_words` meets its contract. Assumes nothing.
+-- `open_words` meets its contract. Assumes nothing.
 use borrow.Author.Needs.{needs}
 use Rattle.lines.proofs.Laws.Wrote.{wrote-as}
 use Rattle.seam_lines.proofs.Laws.Line.{words-left, words-right, words-both}

@@ -1,4 +1,4 @@
--- `text::seams::run` meets its contract. The loop's invariant: the lines of the columns passed are written. Assumes nothing.
+-- `run` meets its contract. The loop's invariant: the lines of the columns passed are written. Assumes nothing.
 use mathlib.Core.Path.{_≡_, ap}
 use Prim.Native.Nat.{ℕ, _-_, _≤_}
 use native.Mathlib.Omega.{arith}

@@ -1,4 +1,4 @@
--- `text::seams::seam` meets its contract. Assumes nothing.
+-- `seam` meets its contract. Assumes nothing.
 use mathlib.Core.Path.{sym, _∙_, ap}
 use lib.ListN.{length, getD}
 use native.Mathlib.Omega.{arith}

@@ -1,4 +1,4 @@
--- `text::seams::seams` meets its contract: five runs write the lines, in order. Assumes nothing.
+-- `seams` meets its contract: five runs write the lines, in order. Assumes nothing.
 use mathlib.Core.Path.{_∙_, ap}
 use mathlib.Core.List.{List, _++_}
 use Prim.Native.Nat.{ℕ, _-_, _≤_}

@@ -1,4 +1,4 @@
--- `rule::settings::drift_cost` meets its contract: the code is the definition, and the product fits. Assumes nothing.
+-- `drift_cost` meets its contract: the code is the definition, and the product fits. Assumes nothing.
 use native.Mathlib.Nat.{mul-le-mul}
 use native.Mathlib.Omega.{arith}
 use borrow.Author.Needs.{needs}

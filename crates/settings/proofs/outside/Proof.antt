@@ -1,10 +1,8 @@
--- `rule::settings::outside` meets its contract: the code is the definition. Assumes nothing.
+-- `outside` meets its contract: the code is the definition. Assumes nothing.
 use borrow.Author.Tests.{lt-ltb, le-ltb}
 use Rattle.settings.specs.Refusal.{outside}
 use Rattle.settings.proofs.outside.Statement.{statement}
 use Rattle.settings.proofs.outside.Tie as tie
-use Rattle.settings.proofs.outside.Reads as reads
-use Rattle.settings.proofs.outside.Lts as lts
 
 returns : tie.Need-returns
 unfolding outside

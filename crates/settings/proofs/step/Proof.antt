@@ -1,4 +1,4 @@
--- `rule::settings::step` meets its contract: the code is the definition, and the sums and products fit. Assumes nothing.
+-- `step` meets its contract: the code is the definition, and the sums and products fit. Assumes nothing.
 use mathlib.Core.Path.{ap}
 use Prim.Native.Nat.{ℕ, _+_, _*_, _≤_}
 use native.Mathlib.Nat.{mul-le-mul}

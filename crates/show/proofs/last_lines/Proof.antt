@@ -1,4 +1,4 @@
--- `show::last_lines` meets its contract. Assumes nothing.
+-- `last_lines` meets its contract. Assumes nothing.
 use mathlib.Core.Path.{_≡_, sym, _∙_, ap}
 use mathlib.Core.List.{List}
 use Prim.Native.Nat.{ℕ, _+_, _/_, _≤_}

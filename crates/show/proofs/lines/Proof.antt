@@ -1,4 +1,4 @@
--- `steps::lines` meets its contract. Assumes nothing.
+-- `lines` meets its contract. Assumes nothing.
 use mathlib.Core.Path.{refl, sym, _∙_, ap}
 use Prim.Native.Nat.{ℕ}
 use lib.ListN.{length}

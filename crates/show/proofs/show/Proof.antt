@@ -1,4 +1,4 @@
--- `show::show` meets its contract. Assumes nothing.
+-- `show` meets its contract. Assumes nothing.
 use mathlib.Core.Path.{_≡_, sym, _∙_, ap}
 use mathlib.Core.Bool.{true}
 use mathlib.Core.List.{List}

@@ -1,4 +1,4 @@
--- `text::table::columns` meets its contract. The loop's invariant: the places passed are filled. Assumes nothing.
+-- `columns` meets its contract. The loop's invariant: the places passed are filled. Assumes nothing.
 use Prim.Native.Nat.{ℕ, _-_, _≤_}
 use native.Mathlib.Omega.{arith}
 use Rattle.tables.specs.Word.{word-of, spaced, Filled}

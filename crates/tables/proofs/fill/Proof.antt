@@ -1,4 +1,4 @@
--- `text::table::fill` meets its contract. Assumes nothing.
+-- `fill` meets its contract. Assumes nothing.
 use mathlib.Core.Path.{_∙_}
 use borrow.Author.Needs.{needs}
 use Rattle.tables.proofs.Laws.Table.{all-tables, first-pairs}

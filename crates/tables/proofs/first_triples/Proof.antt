@@ -1,4 +1,4 @@
--- `text::table::first_triples` meets its contract. The loop's invariant: the places passed are filled. Assumes nothing.
+-- `first_triples` meets its contract. The loop's invariant: the places passed are filled. Assumes nothing.
 use mathlib.Core.Path.{_≡_}
 use Prim.Native.Nat.{ℕ, _+_, _-_, _*_, _/_, _≤_}
 use lib.ListN.{getD}

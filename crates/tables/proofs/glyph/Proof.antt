@@ -1,4 +1,4 @@
--- `text::table::glyph` meets its contract. Assumes nothing.
+-- `glyph` meets its contract. Assumes nothing.
 use mathlib.Core.Path.{sym}
 use native.Mathlib.Omega.{arith}
 use borrow.Author.Needs.{needs}

@@ -1,4 +1,4 @@
--- `text::table::lengths` meets its contract. The loop's invariant: the places passed are filled. Assumes nothing.
+-- `lengths` meets its contract. The loop's invariant: the places passed are filled. Assumes nothing.
 use Prim.Native.Nat.{ℕ, _-_, _≤_}
 use lib.ListN.{length}
 use native.Mathlib.Omega.{arith}

@@ -1,4 +1,4 @@
--- `text::table::next_triples` meets its contract. The loop's invariant: the places passed are filled. Assumes nothing.
+-- `next_triples` meets its contract. The loop's invariant: the places passed are filled. Assumes nothing.
 use mathlib.Core.Path.{ap}
 use Prim.Native.Nat.{ℕ, _+_, _-_, _*_, _≤_}
 use lib.ListN.{getD}

@@ -1,4 +1,4 @@
--- `text::table::pairs` meets its contract. The loop's invariant: the places passed are filled. Assumes nothing.
+-- `pairs` meets its contract. The loop's invariant: the places passed are filled. Assumes nothing.
 use mathlib.Core.Path.{_≡_}
 use Prim.Native.Nat.{ℕ, _+_, _-_, _*_, _≤_}
 use native.Mathlib.Nat.{mul-le-mul, div-lt-iff-lt-mul, mod-lt}

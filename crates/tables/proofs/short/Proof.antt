@@ -1,4 +1,4 @@
--- `text::table::short` meets its contract. Assumes nothing.
+-- `short` meets its contract. Assumes nothing.
 use native.Mathlib.Omega.{arith}
 use borrow.Author.Needs.{needs}
 use Rattle.tables.proofs.Laws.Digits.{word-one, word-two, word-three, word-four}

@@ -1,4 +1,4 @@
--- `text::table::short_length` meets its contract. Assumes nothing.
+-- `short_length` meets its contract. Assumes nothing.
 use native.Mathlib.Omega.{arith}
 use Rattle.tables.proofs.Laws.Digits.{spaced-length}
 use Rattle.tables.proofs.short_length.Statement.{statement}

@@ -1,4 +1,4 @@
--- `told::first_marked` meets its contract. The loop's invariant: no column passed is marked. Assumes nothing.
+-- `first_marked` meets its contract. The loop's invariant: no column passed is marked. Assumes nothing.
 use mathlib.Core.Path.{_≡_, sym, _∙_, ap}
 use mathlib.Core.Bool.{cond}
 use mathlib.Core.List.{List}

@@ -1,4 +1,4 @@
--- `told::row_told` meets its contract. Assumes nothing.
+-- `row_told` meets its contract. Assumes nothing.
 use mathlib.Core.Path.{_≡_, sym, _∙_, ap}
 use Prim.Native.Nat.{ℕ, _≤_}
 use lib.ListN.{length, take}

@@ -1,4 +1,4 @@
--- `told::tell` meets its contract. Assumes nothing.
+-- `tell` meets its contract. Assumes nothing.
 use mathlib.Core.Path.{_≡_, sym, _∙_, ap, subst}
 use mathlib.Core.Bool.{true}
 use mathlib.Core.List.{List}

@@ -1,4 +1,4 @@
--- `text::row_lines` meets its contract: the tiles leave room for the seams. Assumes nothing.
+-- `row_lines` meets its contract: the tiles leave room for the seams. Assumes nothing.
 use native.Mathlib.Omega.{arith}
 use borrow.Author.Needs.{needs}
 use Rattle.lines.specs.Row.{row-text, row-room}

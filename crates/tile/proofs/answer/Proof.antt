@@ -1,4 +1,4 @@
--- `rule::tile::answer` meets its contract: the rule's P and own less P, in i64. Assumes nothing.
+-- `answer` meets its contract: the rule's P and own less P, in i64. Assumes nothing.
 use mathlib.Core.Path.{_≡_, sym}
 use Prim.Native.Nat.{_^_, _<_}
 use lib.IntN.{pos, _-ℤ_}

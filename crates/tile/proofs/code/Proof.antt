@@ -1,4 +1,4 @@
--- `rule::tile::code` meets its contract: a stamp that is not late is a natural number. Assumes nothing.
+-- `code` meets its contract: a stamp that is not late is a natural number. Assumes nothing.
 use mathlib.Core.Path.{_≡_}
 use lib.IntN.{pos}
 use lib.ListN.{getD}

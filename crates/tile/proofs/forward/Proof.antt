@@ -1,4 +1,4 @@
--- `rule::tile::forward` meets its contract: a tile that is not turned away is answered from its own stamps. Assumes nothing.
+-- `forward` meets its contract: a tile that is not turned away is answered from its own stamps. Assumes nothing.
 use mathlib.Core.Path.{sym, _∙_}
 use native.Mathlib.Omega.{arith}
 use borrow.Author.Needs.{needs}

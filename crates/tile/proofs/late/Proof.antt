@@ -1,4 +1,4 @@
--- `rule::tile::late` meets its contract: its tests are the definition's. Assumes nothing.
+-- `late` meets its contract: its tests are the definition's. Assumes nothing.
 use mathlib.Core.Path.{_≡_}
 use lib.IntN.{pos}
 use lib.ListN.{getD}

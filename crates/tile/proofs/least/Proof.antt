@@ -1,4 +1,4 @@
--- `rule::tile::least` meets its contract: the smaller of the codes is the code of the earliest stamp. Assumes nothing.
+-- `least` meets its contract: the smaller of the codes is the code of the earliest stamp. Assumes nothing.
 use mathlib.Core.Path.{_≡_}
 use native.Mathlib.Omega.{arith}
 use borrow.Author.Needs.{needs}

@@ -1,4 +1,4 @@
--- `rule::tile::most` meets its contract: the larger of the codes is the code of the latest stamp. Assumes nothing.
+-- `most` meets its contract: the larger of the codes is the code of the latest stamp. Assumes nothing.
 use mathlib.Core.Path.{_≡_}
 use native.Mathlib.Omega.{arith}
 use borrow.Author.Needs.{needs}

@@ -1,4 +1,4 @@
--- `rule::tile::one` meets its contract: the code is the definition. Assumes nothing.
+-- `one` meets its contract: the code is the definition. Assumes nothing.
 use Rattle.tile.specs.Tile.{count-silent}
 use Rattle.tile.proofs.one.Statement.{statement}
 use Rattle.tile.proofs.one.Tie as tie

@@ -1,4 +1,4 @@
--- `rule::tile::refusal` meets its contract: the settings' number, then 11, then the stamps'. Assumes nothing.
+-- `refusal` meets its contract: the settings' number, then 11, then the stamps'. Assumes nothing.
 use mathlib.Core.Path.{_≡_, sym, _∙_}
 use mathlib.Core.List.{_∷_}
 use borrow.Author.Needs.{needs}

@@ -1,4 +1,4 @@
--- `rule::tile::stamp_refusal` meets its contract. The loop's invariant: no place passed is late, and `silences` counts the silent
+-- `stamp_refusal` meets its contract. The loop's invariant: no place passed is late, and `silences` counts the silent
 -- among them. Assumes nothing.
 use mathlib.Core.Path.{_≡_, refl, sym, _∙_}
 use mathlib.Core.Bool.{false}
@@ -14,10 +14,6 @@ use Rattle.settings.proofs.Laws.AnyBelow.{some-below, none-at-zero, none-below-
 use Rattle.tile.proofs.Laws.{silent-most, silences-most}
 use Rattle.tile.proofs.stamp_refusal.Statement.{statement}
 use Rattle.tile.proofs.stamp_refusal.Tie as tie
-use Rattle.tile.proofs.stamp_refusal.Reads as reads
-use Rattle.tile.proofs.stamp_refusal.Lts as lts
-use Rattle.tile.proofs.late.Reads as late-reads
-use Rattle.tile.proofs.one.Reads as one-reads
 
 abbrev Inv-loop : tie.InvT-loop
 Inv-loop stamps places silences₀ place₀ silences place =

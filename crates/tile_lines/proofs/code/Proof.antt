@@ -1,4 +1,4 @@
--- `text::tiles::code` meets its contract. Assumes nothing.
+-- `code` meets its contract. Assumes nothing.
 use Rattle.tile_lines.specs.Tile.{code}
 use Rattle.tile_lines.proofs.code.Statement.{statement}
 use Rattle.tile_lines.proofs.code.Tie as tie

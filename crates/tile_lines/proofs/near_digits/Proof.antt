@@ -1,4 +1,4 @@
--- `text::tiles::near_digits` meets its contract. Assumes nothing.
+-- `near_digits` meets its contract. Assumes nothing.
 use mathlib.Core.Path.{sym}
 use native.Mathlib.Omega.{arith}
 use Prim.Native.Nat.{_-_, _/_, _^_}

@@ -1,4 +1,4 @@
--- `text::tiles::tile` meets its contract. Assumes nothing.
+-- `tile` meets its contract. Assumes nothing.
 use mathlib.Core.Path.{sym}
 use mathlib.Core.List.{[], _∷_, _++_, append-assoc}
 use native.Mathlib.Omega.{arith}

@@ -1,4 +1,4 @@
--- `text::tiles::tiles` meets its contract. The loop's invariant: the lines of the columns passed are written, and their codes.
+-- `tiles` meets its contract. The loop's invariant: the lines of the columns passed are written, and their codes.
 -- Assumes nothing.
 use mathlib.Core.Path.{_≡_, refl, _∙_, ap}
 use mathlib.Core.Bool.{Bool}

@@ -1,4 +1,4 @@
--- `text::word::eight_hexadecimal` meets its contract. Assumes nothing.
+-- `eight_hexadecimal` meets its contract. Assumes nothing.
 use Prim.Native.Nat.{_/_, _%_, _<_}
 use native.Mathlib.Omega.{arith}
 use borrow.Author.Needs.{needs}

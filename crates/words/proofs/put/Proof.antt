@@ -1,4 +1,4 @@
--- `text::word::put` meets its contract. Assumes nothing.
+-- `put` meets its contract. Assumes nothing.
 use Prim.Native.Nat.{_/_, _%_}
 use lib.ListN.{length-set}
 use native.Mathlib.Omega.{arith}

@@ -1,4 +1,4 @@
--- `cases::number::digits` is safe and ends: a digit is added only where there is room for it. Assumes nothing.
+-- `number::digits` is safe and ends: a digit is added only where there is room for it. Assumes nothing.
 use Prim.Native.Nat.{_-_, _*_, _≤_}
 use native.Mathlib.Nat.{le-trans, mul-le-mul-right, div-mul-le-self}
 use native.Mathlib.Omega.{arith}

@@ -1,4 +1,4 @@
--- `cases::numbers::from_first` is safe and ends. Assumes nothing.
+-- `numbers::from_first` is safe and ends. Assumes nothing.
 use Prim.Native.Nat.{_-_}
 use borrow.Author.Needs.{needs}
 use Rattle.cases.proofs.numbers.from_first.Statement.{statement}

@@ -1,4 +1,4 @@
--- `cases::numbers::of_words` is safe and ends. Assumes nothing.
+-- `numbers::of_words` is safe and ends. Assumes nothing.
 use Prim.Native.Nat.{_-_, _≤_}
 use lib.ListN.{length}
 use mathlib.Core.Logic.{⊎-elim}

@@ -1,4 +1,4 @@
--- `row::progress::further` meets its contract. The loop's invariant: the places passed hold their tiles' pulses, and at most eight
+-- `progress::further` meets its contract. The loop's invariant: the places passed hold their tiles' pulses, and at most eight
 -- were passed, all of a plain stretch. Assumes nothing.
 use mathlib.Core.Path.{_≡_, sym, _∙_, ap, subst}
 use Prim.Native.Nat.{ℕ, _+_, _-_, _≤_, _<_}

@@ -1,4 +1,4 @@
--- `row_cases::handed::times` is safe and ends. Assumes nothing.
+-- `handed::times` is safe and ends. Assumes nothing.
 use mathlib.Core.Path.{_≡_}
 use Prim.Native.Nat.{_-_, _≤_}
 use lib.ListN.{length, length-set}

@@ -1,4 +1,4 @@
--- `row_cases::plan::look` is safe and ends. Assumes nothing.
+-- `plan::look` is safe and ends. Assumes nothing.
 use Prim.Native.Nat.{_-_, _≤_, _<_}
 use borrow.Author.Needs.{needs}
 use Rattle.row_cases.proofs.plan.look.Statement.{statement}

@@ -1,4 +1,4 @@
--- `row_cases::plan::planned` is safe: each part lent is within its array. Assumes nothing.
+-- `plan::planned` is safe: each part lent is within its array. Assumes nothing.
 use lib.ListN.{length-take}
 use native.Mathlib.Omega.{arith}
 use borrow.Author.Needs.{needs}

@@ -1,4 +1,4 @@
--- `rule::clock::first_tick` meets its contract: with phase 0 the code is the definition. Assumes nothing.
+-- `clock::first_tick` meets its contract: with phase 0 the code is the definition. Assumes nothing.
 use mathlib.Core.Path.{_∙_, ap}
 use Prim.Native.Nat.{ℕ, _+_}
 use native.Mathlib.Omega.{arith}

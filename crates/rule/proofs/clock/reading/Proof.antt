@@ -1,4 +1,4 @@
--- `rule::clock::reading` meets its contract: with phase 0 the code is the definition, and the product fits. Assumes nothing.
+-- `clock::reading` meets its contract: with phase 0 the code is the definition, and the product fits. Assumes nothing.
 use Prim.Native.Nat.{_+_, _^_}
 use native.Mathlib.Nat.{mul-le-mul}
 use native.Mathlib.Omega.{arith}

@@ -1,4 +1,4 @@
--- `rule::forwarding::forward` meets its contract: each return is a case of the closed form. Assumes nothing.
+-- `forwarding::forward` meets its contract: each return is a case of the closed form. Assumes nothing.
 use mathlib.Core.Path.{_≡_, sym, _∙_}
 use Prim.Native.Nat.{ℕ, _≤_}
 use native.Mathlib.Omega.{arith}

@@ -1,4 +1,4 @@
--- `rule::forwarding::middle` meets its contract: below one turn the lift needs no division. Assumes nothing.
+-- `forwarding::middle` meets its contract: below one turn the lift needs no division. Assumes nothing.
 use Prim.Native.Nat.{ℕ, _-_, _*_, _/_, _≤_}
 use native.Mathlib.Nat.{mul-div-le, mod-le}
 use native.Mathlib.Omega.{arith}

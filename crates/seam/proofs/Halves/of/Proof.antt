@@ -1,4 +1,4 @@
--- `seam::Halves::of` meets its contract: the whole sum and gap fit, their casts lose nothing, and one product with one
+-- `Halves::of` meets its contract: the whole sum and gap fit, their casts lose nothing, and one product with one
 -- half is exact. Assumes nothing.
 use mathlib.Core.Path.{_≡_, refl}
 use Prim.Native.Nat.{ℕ, _+_, _≤_}

@@ -1,4 +1,4 @@
--- `rule::settings::Settings::new` meets its contract: the record where its number is 0, and else the number. Assumes nothing.
+-- `Settings::new` meets its contract: the record where its number is 0, and else the number. Assumes nothing.
 use borrow.Author.Needs.{needs}
 use borrow.Author.Tests.{ne-eqb}
 use Rattle.settings.specs.Settings.{settings, checked}

@@ -1,4 +1,4 @@
--- `rule::settings::Settings::refusal` meets its contract: each test that was passed does not apply, so the number given is
+-- `Settings::refusal` meets its contract: each test that was passed does not apply, so the number given is
 -- the first that does. Assumes nothing.
 use mathlib.Core.Path.{_≡_, sym, _∙_}
 use mathlib.Core.Bool.{false}

@@ -1,4 +1,4 @@
--- `rule::rounding::up` meets its contract: the code is the definition. Assumes nothing.
+-- `rounding::up` meets its contract: the code is the definition. Assumes nothing.
 use mathlib.Core.Path.{refl}
 use borrow.Author.Needs.{needs}
 use Rattle.settings.specs.Rounding.{up}

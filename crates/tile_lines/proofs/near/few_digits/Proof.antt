@@ -1,4 +1,4 @@
--- `text::near::few_digits` meets its contract. The loop's invariant: `low` is the least number of so many digits. Assumes nothing.
+-- `near::few_digits` meets its contract. The loop's invariant: `low` is the least number of so many digits. Assumes nothing.
 use mathlib.Core.Path.{_≡_, refl}
 use Prim.Native.Nat.{ℕ, zero, suc, _-_, _*_, _^_, _≤_, _<_}
 use native.Mathlib.Nat.{pow-succ'}

@@ -1,4 +1,4 @@
--- `lacks` meets its contract. Assumes nothing.
+-- `Window::lacks` meets its contract. Assumes nothing.
 use borrow.Author.Needs.{needs}
 use Rattle.window.specs.Window.{lacking}
 use Rattle.window.proofs.Window.lacks.Statement.{statement}

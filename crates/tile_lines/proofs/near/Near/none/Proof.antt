@@ -1,4 +1,4 @@
--- `text::near::Near::none` meets its contract. Assumes nothing.
+-- `near::Near::none` meets its contract. Assumes nothing.
 use mathlib.Core.Path.{refl}
 use native.Mathlib.Omega.{arith}
 use Rattle.tile_lines.specs.Near.{Right}

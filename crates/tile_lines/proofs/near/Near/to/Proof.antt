@@ -1,4 +1,4 @@
--- `text::near::Near::to` meets its contract. Assumes nothing.
+-- `near::Near::to` meets its contract. Assumes nothing.
 use mathlib.Core.Logic.{inl, inr}
 use Prim.Native.Nat.{ℕ, _-_, _*_, _/_, _≤_, _<_}
 use native.Mathlib.Omega.{arith}

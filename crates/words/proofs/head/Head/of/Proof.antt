@@ -1,4 +1,4 @@
--- `text::head::Head::of` meets its contract. Assumes nothing.
+-- `head::Head::of` meets its contract. Assumes nothing.
 use mathlib.Core.Path.{refl}
 use Prim.Native.Nat.{_+_, _*_}
 use native.Mathlib.Omega.{arith}
