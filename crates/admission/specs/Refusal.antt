@@ -1,7 +1,7 @@
 -- When a row call is turned away: the numbers 21 to 26. Assumes nothing.
 use mathlib.Core.Bool.{Bool, not, _&&_}
 use mathlib.Core.List.{List, [], _∷_}
-use Prim.Native.Nat.{ℕ, _+_, _-_, _*_}
+use Prim.Native.Nat.{ℕ, _+_, _*_}
 use lib.Dec.{ltb, leb, eqb}
 use lib.ListN.{length, getD}
 use Rattle.settings.specs.Refusal.{Test, _when_, first, any-below}
@@ -28,6 +28,7 @@ stray-mark w ms k = leb w k && marked ms k
 unfoldable pub late-time : (before marks : List ℕ) → (c : ℕ) → Bool
 late-time ts ms c = not (marked ms c) && ltb latest-time (getD ts c 0)
 
+-- 24: "a tile with two faulty predecessors"
 unfoldable pub crowded : (w : ℕ) → (marks : List ℕ) → (c : ℕ) → Bool
 crowded w ms c = ltb 1 (faulty-among ms (predecessors w c))
 

@@ -37,13 +37,12 @@ fn kind(line: &[u8]) -> u8 {
 // The numbers between the kind and the colon of a line that has a label.
 fn before_label(line: &[u8]) -> Words {
     let colon = find(line, 0, line.len(), b':');
-    if colon == 0 {
-        return Words::NONE;
+    if 0 < colon {
+        if colon + 2 <= line.len() {
+            return of_words(&line[1..colon]);
+        }
     }
-    if line.len() < colon + 2 {
-        return Words::NONE;
-    }
-    of_words(&line[1..colon])
+    Words::NONE
 }
 
 // Writes a line's label: what stands after the colon and a space.

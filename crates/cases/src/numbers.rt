@@ -61,10 +61,12 @@ impl Numbers {
 }
 
 impl Words {
-    // What is no case.
+    // The count of a line that is no case.
+    const NO_CASE: usize = 99;
+
     pub const NONE: Words = Words {
         last: Numbers::ZEROS,
-        count: 99,
+        count: Self::NO_CASE,
     };
 }
 
@@ -78,7 +80,10 @@ pub fn of_words(words: &[u8]) -> Words {
         if at < end {
             let number = number::read(&words[at..end]);
             if !number.right {
-                return Words::NONE;
+                return Words {
+                    last,
+                    count: Words::NO_CASE,
+                };
             }
             last = last.and(number.value);
             count += 1;

@@ -2,7 +2,7 @@
 use mathlib.Core.Bool.{Bool, true, _&&_, _||_, cond, false}
 use mathlib.Core.List.{List, [], _∷_}
 use mathlib.Core.Path.{_≡_}
-use Prim.Native.Nat.{ℕ, zero, suc, _+_, _≤_, _<_, _-_}
+use Prim.Native.Nat.{ℕ, zero, suc, _+_, _≤_, _<_}
 use lib.Dec.{eqb}
 use lib.ListN.{length, getD}
 
@@ -16,6 +16,16 @@ are-neighbours w a b =
 unfoldable pub columns-from : (n c : ℕ) → (ℕ → Bool) → List ℕ
 columns-from zero c f = []
 columns-from (suc n) c f = cond (f c) (c ∷ columns-from n (suc c) f) (columns-from n (suc c) f)
+
+-- f holds of some number in a list
+unfoldable pub any-of : List ℕ → (ℕ → Bool) → Bool
+any-of [] f = false
+any-of (k ∷ ks) f = f k || any-of ks f
+
+-- what f gives for each column from c on, n of them
+unfoldable pub table-from : (n c : ℕ) → (ℕ → ℕ) → List ℕ
+table-from zero c f = []
+table-from (suc n) c f = f c ∷ table-from n (suc c) f
 
 unfoldable pub neighbours : (w c : ℕ) → List ℕ
 neighbours w c = columns-from w 0 (λ k. are-neighbours w c k)
@@ -41,6 +51,10 @@ place-in k (x ∷ xs) = cond (eqb k x) 0 (suc (place-in k xs))
 unfoldable pub link-place : (w c k : ℕ) → ℕ
 link-place w c k = links-before w c + place-in k (predecessors w c)
 
+-- "the link values by tile and then by sender column"
+unfoldable pub link : (w : ℕ) → (links : List ℕ) → (tile sender : ℕ) → ℕ
+link w ls c k = getD ls (link-place w c k) 0
+
 -- "A hop is a step to a neighbour." A way of n hops from a column to another
 pub data Way (w : ℕ) : (n a b : ℕ) → Type 0 where
   stay : {a : ℕ} → Way w 0 a a
@@ -51,17 +65,3 @@ pub record Within (w n a b : ℕ) : Type 0 where
   pub hops : ℕ
   pub few : hops ≤ n
   pub way : Way w hops a b
-
--- "the link values by tile and then by sender column"
-unfoldable pub link : (w : ℕ) → (links : List ℕ) → (tile sender : ℕ) → ℕ
-link w ls c k = getD ls (link-place w c k) 0
-
--- f 0 to f (n - 1)
-unfoldable pub table-from : (n c : ℕ) → (ℕ → ℕ) → List ℕ
-table-from zero c f = []
-table-from (suc n) c f = f c ∷ table-from n (suc c) f
-
--- f holds of some number in a list
-unfoldable pub any-of : List ℕ → (ℕ → Bool) → Bool
-any-of [] f = false
-any-of (k ∷ ks) f = f k || any-of ks f

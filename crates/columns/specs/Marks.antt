@@ -14,7 +14,7 @@ marked ms c = eqb (getD ms (c / 8) 0 / 2 ^ (c % 8) % 2) 1
 unfoldable pub mark-bytes : (w : ℕ) → ℕ
 mark-bytes w = (w + 7) / 8
 
--- 24: "a tile with two faulty predecessors"
+-- how many of some columns are marked
 unfoldable pub faulty-among : (marks : List ℕ) → (columns : List ℕ) → ℕ
 faulty-among ms [] = 0
 faulty-among ms (k ∷ ks) = cond (marked ms k) 1 0 + faulty-among ms ks

@@ -6,11 +6,11 @@ use Prim.Native.Nat.{ℕ, _≤_}
 use lib.ListN.{length, take, drop}
 use Rattle.file.specs.File.{wall-text}
 use Rattle.steps.specs.Step.{step-of}
-use Rattle.steps.specs.Fit.{due-of, wall-fits}
+use Rattle.stages.specs.Fit.{due-of, wall-fits}
 use Rattle.wall.specs.Operation.{Stepping}
-use Rattle.steps.specs.declared.Wall.{Wall}
-use Rattle.steps.specs.declared.Wall.the-variants.{New, Start, Over}
-use Rattle.steps.specs.declared.Place.{Place}
+use Rattle.stages.specs.declared.Wall.{Wall}
+use Rattle.stages.specs.declared.Wall.the-variants.{New, Start, Over}
+use Rattle.stages.specs.declared.Place.{Place}
 use Rattle.wall.specs.declared.Went.{Went}
 use Rattle.wall.specs.declared.Answer.{Answer}
 use Rattle.wall.specs.declared.Answer.the-variants as step

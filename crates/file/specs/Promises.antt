@@ -17,7 +17,7 @@ use Rattle.steps.specs.Shown.{Shown, lines, turned-away, number-shown}
 use Rattle.file.specs.File.{shown}
 use Rattle.steps.specs.Step.{steps-shown}
 use Rattle.file.specs.Limits.{settings-of, start-of, calls-of, rows-of, Keeps, run-shown}
-use Rattle.steps.specs.declared.Wall.the-variants.{New}
+use Rattle.stages.specs.declared.Wall.the-variants.{New}
 
 -- running the steps over any bytes, whatever the row held, shows what the definition of the whole shows, and 1,027 steps are
 -- enough

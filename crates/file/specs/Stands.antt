@@ -2,9 +2,9 @@
 use mathlib.Core.Path.{_≡_}
 use Prim.Native.Nat.{ℕ, _+_, _*_, _-_, _≤_, _<_}
 use Rattle.settings.specs.Settings.{settings-refusal}
-use Rattle.steps.specs.declared.Place.{Place}
-use Rattle.steps.specs.declared.Wall.{Wall}
-use Rattle.steps.specs.declared.Wall.the-variants.{New, Start, Row, End, Over}
+use Rattle.stages.specs.declared.Place.{Place}
+use Rattle.stages.specs.declared.Wall.{Wall}
+use Rattle.stages.specs.declared.Wall.the-variants.{New, Start, Row, End, Over}
 
 -- a place in a file: its settings pass, its row is one of theirs, and its offset is no larger than the fields before it
 pub record Stood (p : Place) : Type 0 where

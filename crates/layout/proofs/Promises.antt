@@ -13,8 +13,8 @@ use Rattle.rule.specs.Signed.{natural}
 use Rattle.rule.specs.Stamp.{latest-stamp}
 use Rattle.tile.specs.Tile.{silent-at, reading-at, stamp-from, stamp-at, late-from, late-at}
 use Rattle.settings.proofs.Laws.Cases.{by-order}
-use Rattle.steps.specs.Step.{place}
-use Rattle.steps.specs.declared.Wall.the-variants.{New, Start, Row, End, Over}
+use Rattle.stages.specs.Fit.{place}
+use Rattle.stages.specs.declared.Wall.the-variants.{New, Start, Row, End, Over}
 use Rattle.layout.specs.Words.{silent-word, first-late, at-most, stamp-in, stamps-in, settings-from, place-in, staged, wall-in, place-words, wall-words}
 use Rattle.layout.specs.Promises.{word-stamp, word-late, Stamps-read, Count-read, Walls-kept}
 

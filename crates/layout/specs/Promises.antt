@@ -9,8 +9,8 @@ use lib.ListN.{getD}
 use Rattle.settings.specs.Refusal.{outside}
 use Rattle.rule.specs.Stamp.{Stamp, heard, silent, latest-stamp}
 use Rattle.tile.specs.Tile.{stamp-at, late-at}
-use Rattle.steps.specs.declared.Place.{Place}
-use Rattle.steps.specs.declared.Wall.{Wall}
+use Rattle.stages.specs.declared.Place.{Place}
+use Rattle.stages.specs.declared.Wall.{Wall}
 use Rattle.layout.specs.Words.{silent-word, stamps-in, wall-in, wall-words}
 
 -- a word as a stamp: "2^64 - 1 is silent", and "a stamp over 2^41 - 1 that isn't silent" is 12

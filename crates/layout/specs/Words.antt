@@ -10,10 +10,10 @@ use Rattle.settings.specs.declared.Settings.{Settings}
 use Rattle.tile.specs.declared.Stamps.{Stamps}
 use Rattle.seam.specs.declared.Side.{Side}
 use Rattle.seam.specs.declared.Side.the-variants.{Left, Right, Both}
-use Rattle.steps.specs.Step.{place}
-use Rattle.steps.specs.declared.Place.{Place}
-use Rattle.steps.specs.declared.Wall.{Wall}
-use Rattle.steps.specs.declared.Wall.the-variants.{New, Start, Row, End, Over}
+use Rattle.stages.specs.Fit.{place}
+use Rattle.stages.specs.declared.Place.{Place}
+use Rattle.stages.specs.declared.Wall.{Wall}
+use Rattle.stages.specs.declared.Wall.the-variants.{New, Start, Row, End, Over}
 
 -- from the word k on: W, R, d, u, A, r, h
 unfoldable pub settings-from : (k : ℕ) → (words : List ℕ) → Settings

@@ -1,8 +1,8 @@
 // The structs of the C header as words, in the order of its fields.
 use seam::Side;
 use settings::Settings;
-use steps::Place;
-use steps::Wall;
+use stages::Place;
+use stages::Wall;
 use tile::Stamps;
 ghost use mathlib.Core.Path.{_≡_};
 ghost use Prim.Native.Nat.{_≤_};

@@ -1,14 +1,14 @@
 -- When a link value is out of range: number 26. Assumes nothing.
-use Prim.Native.Nat.{ℕ, _-_}
 use mathlib.Core.Bool.{Bool, cond, not, _&&_, false}
 use mathlib.Core.List.{List}
+use mathlib.Core.Path.{_≡_}
+use Prim.Native.Nat.{ℕ, _-_}
 use lib.Dec.{ltb, eqb}
 use Rattle.settings.specs.Refusal.{outside}
 use Rattle.rule.specs.Stamp.{silence}
 use Rattle.settings.specs.declared.Settings.{Settings}
 use Rattle.columns.specs.Columns.{predecessors, link, any-of}
 use Rattle.columns.specs.Marks.{marked}
-use mathlib.Core.Path.{_≡_}
 
 -- 2^40 - 1: the latest time of a correct tile, and the latest faulty arrival
 abbrev pub latest-time : ℕ

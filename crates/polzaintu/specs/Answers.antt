@@ -16,8 +16,8 @@ use Rattle.reach.specs.declared.Gap.{Gap}
 use Rattle.reach.specs.declared.Gap.the-variants as gap
 use Rattle.reach.specs.declared.Reached.{Reached}
 use Rattle.reach.specs.declared.Reached.the-variants as reached
-use Rattle.steps.specs.declared.Take.{Take}
-use Rattle.steps.specs.declared.Take.the-variants as take
+use Rattle.steps.specs.declared.Taken.{Taken}
+use Rattle.steps.specs.declared.Taken.the-variants as take
 use Rattle.layout.specs.Words.{side-word, place-in, wall-words}
 
 -- the number of what is unfit and has no number in 01
@@ -67,14 +67,14 @@ reach-left reached.Outside held = held
 reach-left (reached.Refused n) held = held
 
 -- a step of a wall file: its number, the wall, which keeps its place where it is over, and the offset of a refusal
-unfoldable pub step-number : Take → ℕ
+unfoldable pub step-number : Taken → ℕ
 step-number (take.Took t) = t .number
 step-number take.Unfit = unfit
 
-unfoldable pub wall-left : Take → (held : List ℕ) → List ℕ
+unfoldable pub wall-left : Taken → (held : List ℕ) → List ℕ
 wall-left (take.Took t) held = wall-words (t .wall) (place-in held)
 wall-left take.Unfit held = held
 
-unfoldable pub offset-left : Take → (held : ℕ) → ℕ
+unfoldable pub offset-left : Taken → (held : ℕ) → ℕ
 offset-left (take.Took t) held = cond (eqb (t .number) 0) held (t .offset)
 offset-left take.Unfit held = held

@@ -10,7 +10,7 @@ use reach::Gap;
 use reach::Reached;
 use row::Planned;
 use seam::Seam;
-use steps::Take;
+use steps::Taken;
 use tile::Forwarded;
 ghost use mathlib.Core.Path.{_≡_};
 ghost use lib.ListN.{length, replicate};
@@ -20,7 +20,7 @@ ghost use Rattle.admission.specs.Call.{call};
 ghost use Rattle.row.specs.Row.{planned, written, number-of as Row·number-of};
 ghost use Rattle.seam.specs.Seam.{seam-of, number-of as Seam·number-of};
 ghost use Rattle.reach.specs.Search.{gap-of, reach-of};
-ghost use Rattle.steps.specs.Fit.{due-of, width-of};
+ghost use Rattle.stages.specs.Fit.{due-of, width-of};
 ghost use Rattle.steps.specs.Take.{take-of, row-after};
 ghost use Rattle.layout.specs.Words.{settings-from, stamps-in, wall-in};
 ghost use Rattle.polzaintu.specs.Answers.{forwarded-left, ends-left, side-left, halves-left, gap-number, gap-left, reach-number, reach-left, step-number, wall-left, offset-left};
@@ -180,8 +180,8 @@ pub extern "C" fn polzaintu_wall_step(
     ensures offset { λ r. ⌜ now (offset .exit) ≡ offset-left (take-of (wall-in (now (wall .entry))) (now (part .entry)) (now (row .entry)) (length (now (next .entry)))) (now (offset .entry)) ⌝ }
 {
     let held = wall_in(wall);
-    match held.take(part, row, next) {
-        Take::Took(took) => {
+    match steps::take(held, part, row, next) {
+        Taken::Took(took) => {
             let after = took.wall;
             *wall = wall_words(after, place_in(wall));
             let number = took.number;
@@ -190,6 +190,6 @@ pub extern "C" fn polzaintu_wall_step(
             }
             number
         }
-        Take::Unfit => UNFIT,
+        Taken::Unfit => UNFIT,
     }
 }

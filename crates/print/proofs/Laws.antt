@@ -7,7 +7,7 @@ use native.Mathlib.Omega.{arith}
 use lib.ListN.{length, take, drop}
 use lib.Seq.{take-at, length-take-le}
 use Rattle.steps.specs.Step.{Stepped, step-of}
-use Rattle.steps.specs.Fit.{due-of, width-of}
+use Rattle.stages.specs.Fit.{due-of, width-of}
 use Rattle.wall.specs.Operation.{fits, went-to, Stepping}
 use Rattle.lines.specs.Row.{step-room}
 use Rattle.wall.specs.declared.Went.{Went}

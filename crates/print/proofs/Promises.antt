@@ -9,12 +9,12 @@ use lib.Dec.{eqb, ltb}
 use lib.ListN.{length, take, drop, take-append-drop}
 use Rattle.steps.specs.Shown.{Shown}
 use Rattle.steps.specs.Number.{settings-number, start-number, row-number}
-use Rattle.steps.specs.Step.{due-size, stepped, away, settings-step, start-step, step-of, steps-shown}
-use Rattle.steps.specs.Fit.{due-of, width-of}
+use Rattle.stages.specs.Fit.{due-size, due-of, width-of}
+use Rattle.steps.specs.Step.{stepped, away, settings-step, start-step, step-of, steps-shown}
 use Rattle.file.specs.Promises.{Steps-right}
-use Rattle.steps.specs.declared.Place.{Place}
-use Rattle.steps.specs.declared.Wall.{Wall}
-use Rattle.steps.specs.declared.Wall.the-variants.{New, Start, Row, End, Over}
+use Rattle.stages.specs.declared.Place.{Place}
+use Rattle.stages.specs.declared.Wall.{Wall}
+use Rattle.stages.specs.declared.Wall.the-variants.{New, Start, Row, End, Over}
 use Rattle.file.proofs.Promises.{steps-right}
 use Rattle.window.specs.Window.{bytes-in}
 use Rattle.file.specs.Stands.{Stands}

@@ -6,7 +6,7 @@ use lib.ListN.{length, take, drop}
 use Rattle.lines.specs.Wrote.{Wrote}
 use Rattle.show.specs.Text.{texts-of}
 use Rattle.steps.specs.Step.{Stepped, step-of}
-use Rattle.steps.specs.Fit.{due-of, width-of}
+use Rattle.stages.specs.Fit.{due-of, width-of}
 use Rattle.window.specs.Window.{Within, bytes-in}
 use Rattle.stream.specs.declared.State.{State}
 

@@ -8,9 +8,9 @@ use lib.ListN.{length, take, drop}
 use Rattle.steps.specs.Shown.{Shown}
 use Rattle.file.specs.File.{shown}
 use Rattle.steps.specs.Step.{Stepped, step-of}
-use Rattle.steps.specs.Fit.{due-of, width-of}
-use Rattle.steps.specs.declared.Wall.{Wall}
-use Rattle.steps.specs.declared.Wall.the-variants.{New, Over}
+use Rattle.stages.specs.Fit.{due-of, width-of}
+use Rattle.stages.specs.declared.Wall.{Wall}
+use Rattle.stages.specs.declared.Wall.the-variants.{New, Over}
 use Rattle.window.specs.Window.{bytes-in}
 use Rattle.stream.specs.State.{Between, Made-ready}
 use Rattle.print.specs.Advanced.{taken-step, Advanced}

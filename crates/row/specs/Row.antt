@@ -1,10 +1,10 @@
 -- The row that a call writes, and its answer. Assumes nothing.
 use mathlib.Core.List.{List, [], _∷_}
-use Prim.Native.Nat.{ℕ, _-_, min, max}
-use Rattle.settings.specs.declared.Settings.{Settings}
 use mathlib.Core.Path.{_≡_}
 use mathlib.Core.Bool.{cond}
+use Prim.Native.Nat.{ℕ, min, max}
 use lib.Dec.{eqb}
+use Rattle.settings.specs.declared.Settings.{Settings}
 use Rattle.rule.specs.Stamp.{silence}
 use Rattle.admission.specs.Call.{Call}
 use Rattle.row.specs.declared.Planned.{Planned}

@@ -1,12 +1,12 @@
-// What a case hands to the row operation, made from a few numbers: f, a row with a faulty tile, or
-// else a call.
+// What a case hands to the row operation, made from a few numbers: by kind f for a row with a faulty
+// tile, and else for a call.
 use cases::Numbers;
 ghost use mathlib.Core.Path.{_≡_};
 ghost use Prim.Native.Nat.{_<_};
 ghost use lib.ListN.{length};
 
 // Times that step up and down along the row, or are the same but at column 3.
-pub fn times(kind: u8, most: u64, third: u64) -> [u64; 1024]
+pub fn times(kind: u8, most: u64, at_3: u64) -> [u64; 1024]
     ensures { λ r. ⌜ 1024 ≡ length r ⌝ }
 {
     let mut all = [most; 1024];
@@ -17,7 +17,7 @@ pub fn times(kind: u8, most: u64, third: u64) -> [u64; 1024]
             c += 1;
         }
     } else {
-        all[3] = third;
+        all[3] = at_3;
     }
     all
 }
@@ -37,7 +37,7 @@ pub fn marks(kind: u8, column: u64, first: u64) -> [u8; 1024]
 }
 
 // Drifts that differ from column to column, or none but at column 5.
-pub fn drifts(kind: u8, fifth: u64) -> [u32; 1024]
+pub fn drifts(kind: u8, at_5: u64) -> [u32; 1024]
     ensures { λ r. ⌜ 1024 ≡ length r ⌝ }
 {
     let mut all = [0u32; 1024];
@@ -48,7 +48,7 @@ pub fn drifts(kind: u8, fifth: u64) -> [u32; 1024]
             c += 1;
         }
     } else {
-        all[5] = (fifth % 1024) as u32;
+        all[5] = (at_5 % 1024) as u32;
     }
     all
 }
@@ -88,7 +88,7 @@ fn link(faulty: bool, arrival: u64, at: u64) -> u64 {
     }
 }
 
-// The column of the tile that a link value is of, and 3 more. The first two columns and the last two
+// Three more than the column of the tile that a link value is of. The first two columns and the last two
 // hear the three tiles at their end, the third from an end the four there, and a column between them
 // its neighbours and itself.
 fn sender(width: u64, at: u64) -> u64

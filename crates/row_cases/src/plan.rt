@@ -18,7 +18,8 @@ pub struct Outcome {
     pub sevens: bool,
 }
 
-// A row's width, how much of each array is lent, and what the row holds before the call.
+// A row's width, how much of each array is lent, and what the row holds before the call. A case with
+// a length of 1024 or more is reported as wrong, so such a length is only kept within the arrays here.
 struct Sizes {
     width: u64,
     times: usize,
@@ -74,6 +75,7 @@ fn wall(width: u64) -> Settings {
     }
 }
 
+// The call that a case makes.
 pub fn planned(kind: u8, n: Numbers) -> Outcome {
     let size = sized(kind, n);
     let before = times(kind, n.5, n.6);
@@ -92,6 +94,7 @@ pub fn planned(kind: u8, n: Numbers) -> Outcome {
     told(answer, look(&row))
 }
 
+// An answer and what is seen of the row.
 fn told(answer: Planned, seen: Seen) -> Outcome {
     match answer {
         Planned::Row { earliest, latest } => Outcome {

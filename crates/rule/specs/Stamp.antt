@@ -81,6 +81,6 @@ unfoldable pub unheard-in : List Stamp → ℕ
 unheard-in [] = 0
 unheard-in (x ∷ xs) = unheard-of x + unheard-in xs
 
--- 2^41 - 1
+-- the latest stamp that is accepted: 2^41 - 1
 abbrev pub latest-stamp : ℕ
 latest-stamp = 2199023255551

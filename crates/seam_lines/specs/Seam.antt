@@ -10,6 +10,7 @@ use Rattle.lines.specs.Line.{line-end, halves-words, open-words}
 use Rattle.lines.specs.Row.{each-below}
 use Rattle.tables.specs.Word.{spaced}
 
+-- the line of a seam, after what the lines of a row begin with
 unfoldable pub seam-after : (head : List ℕ) → (left right : ℕ) → Seam → List ℕ
 seam-after head a b (Closed h) = head ++ spaced a ++ spaced b ++ (halves-words h ++ (line-end ∷ []))
 seam-after head a b (Open side) = head ++ spaced a ++ spaced b ++ (open-words side ++ (line-end ∷ []))

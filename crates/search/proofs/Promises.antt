@@ -1,7 +1,7 @@
 -- The proofs of what specs/Promises.antt states. Assumes nothing.
 use mathlib.Core.Path.{_≡_, refl, sym, _∙_, ap, subst}
 use mathlib.Core.Bool.{Bool, true, false}
-use mathlib.Core.Logic.{_⊎_, inl, inr, ⊎-elim}
+use mathlib.Core.Logic.{inl, inr, ⊎-elim}
 use mathlib.Core.List.{List, _++_, append-assoc}
 use Prim.Native.Nat.{ℕ, suc, _-_}
 use lib.Dec.{eqb, ltb}
@@ -10,12 +10,12 @@ use native.Mathlib.Omega.{arith}
 use borrow.Author.Tests.{eq-eqb}
 use Rattle.steps.specs.Number.{settings-number, start-number, row-number}
 use Rattle.file.specs.Limits.{settings-of, after-settings, start-of, after-start, calls-of, rows-of}
-use Rattle.steps.specs.Fit.{due-of, width-of}
+use Rattle.stages.specs.Fit.{due-of, width-of, due-size}
 use Rattle.file.specs.Stands.{Stands}
-use Rattle.steps.specs.Step.{Stepped, due-size, stepped, away, settings-step, step-of}
+use Rattle.steps.specs.Step.{Stepped, stepped, away, settings-step, step-of}
 use Rattle.steps.specs.Take.{row-left, next-row}
-use Rattle.steps.specs.declared.Wall.{Wall}
-use Rattle.steps.specs.declared.Wall.the-variants.{New, Start, Row, End, Over}
+use Rattle.stages.specs.declared.Wall.{Wall}
+use Rattle.stages.specs.declared.Wall.the-variants.{New, Start, Row, End, Over}
 use Rattle.file.proofs.Promises.{start-at, rows-place, settings-accepted, start-accepted, first-row, few-rows}
 use Rattle.file.proofs.Laws.Stands.{due-right}
 use Rattle.file.proofs.Laws.Steps.{part-enough}

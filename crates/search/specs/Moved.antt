@@ -4,7 +4,7 @@ use mathlib.Core.List.{List}
 use Prim.Native.Nat.{ℕ}
 use lib.ListN.{length, take, drop}
 use Rattle.lines.specs.Wrote.{Wrote}
-use Rattle.steps.specs.Fit.{due-of, width-of}
+use Rattle.stages.specs.Fit.{due-of, width-of}
 use Rattle.steps.specs.Take.{next-row}
 use Rattle.window.specs.Window.{Within, bytes-in}
 use Rattle.telling.specs.Telling.{Telling, telling}

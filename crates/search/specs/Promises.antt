@@ -11,10 +11,10 @@ use Rattle.runs.specs.Run.{call-at}
 use Rattle.runs.specs.Reach.{widest-gap}
 use Rattle.reach.specs.Survey.{largest-of}
 use Rattle.file.specs.Limits.{settings-of, start-of, calls-of, rows-of, Keeps}
-use Rattle.steps.specs.Fit.{due-of, width-of}
+use Rattle.stages.specs.Fit.{due-of, width-of}
 use Rattle.steps.specs.Take.{next-row}
-use Rattle.steps.specs.declared.Wall.{Wall}
-use Rattle.steps.specs.declared.Wall.the-variants.{New, Over}
+use Rattle.stages.specs.declared.Wall.{Wall}
+use Rattle.stages.specs.declared.Wall.the-variants.{New, Over}
 use Rattle.window.specs.Window.{bytes-in}
 use Rattle.stream.specs.State.{Between, Made-ready}
 use Rattle.stream.specs.declared.State.{State}

@@ -1,6 +1,6 @@
 // The search range of a wall file, from one file descriptor to another: B of each row, the reach in the
 // later rows asked for, and the largest over the wall.
-use steps::Take;
+use steps::Taken;
 use steps::rows::copy;
 use stream::Ended;
 use stream::State;
@@ -12,7 +12,7 @@ use window::Window;
 ghost use mathlib.Core.Path.{_≡_};
 ghost use Prim.Native.Nat.{_+_, _≤_};
 ghost use lib.ListN.{length, take};
-ghost use Rattle.steps.specs.Fit.{width-of};
+ghost use Rattle.stages.specs.Fit.{width-of};
 ghost use Rattle.lines.specs.Row.{step-room};
 ghost use Rattle.file.specs.Stands.{Stands};
 ghost use Rattle.stream.specs.State.{Between};
@@ -130,8 +130,8 @@ fn step(
     let state = search.state;
     let wall = state.wall;
     let window = state.window;
-    match wall.take(part, row, next) {
-        Take::Took(took) => {
+    match steps::take(wall, part, row, next) {
+        Taken::Took(took) => {
             let said = tell(
                 asked,
                 wall,
@@ -153,6 +153,6 @@ fn step(
                 largest: said.largest,
             }
         }
-        Take::Unfit => search,
+        Taken::Unfit => search,
     }
 }

@@ -6,7 +6,7 @@ use reach::Reached;
 use reach::reach_in_row;
 use settings::rounding::less;
 use settings::rounding::smaller;
-use steps::Place;
+use stages::Place;
 ghost use Prim.Native.Nat.{_+_, _*_, _≤_};
 ghost use lib.ListN.{length, take};
 ghost use Rattle.lines.specs.Wrote.{Wrote};

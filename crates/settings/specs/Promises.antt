@@ -2,7 +2,7 @@
 -- Assumes nothing.
 use mathlib.Core.Path.{_≡_}
 use mathlib.Core.Option.{some}
-use Prim.Native.Nat.{ℕ, _+_, _-_, _*_, _≤_, _<_}
+use Prim.Native.Nat.{ℕ, _+_, _*_, _≤_, _<_}
 use Rattle.settings.specs.Settings.{drift-cost, step, settings-refusal, checked, number-of as settings-number, record-of}
 use Rattle.settings.specs.declared.Settings.{Settings}
 

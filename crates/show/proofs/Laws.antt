@@ -19,9 +19,9 @@ use Rattle.show.specs.Text.{text-of, texts-of}
 use Rattle.steps.specs.Number.{settings-number, start-number, row-number, row-offset}
 use Rattle.steps.specs.Step.{Stepped, stepped, away, step-of}
 use Rattle.steps.specs.Take.{row-left, next-row}
-use Rattle.steps.specs.declared.Place.{Place}
-use Rattle.steps.specs.declared.Wall.{Wall}
-use Rattle.steps.specs.declared.Wall.the-variants.{New, Start, Row, End, Over}
+use Rattle.stages.specs.declared.Place.{Place}
+use Rattle.stages.specs.declared.Wall.{Wall}
+use Rattle.stages.specs.declared.Wall.the-variants.{New, Start, Row, End, Over}
 use Rattle.fields.proofs.Laws.Field.{else-none, field-there}
 use Rattle.contents.proofs.Laws.Contents.{times-length, marks-length}
 use Rattle.steps.proofs.Laws.Taken.{settings-away, settings-goes, start-away, start-goes, row-away, row-goes, end-away, end-goes, no-number}

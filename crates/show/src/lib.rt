@@ -1,7 +1,7 @@
 // The text of a step: the line of a refusal, or the lines of the row that is then shown.
-use steps::Place;
+use stages::Place;
+use stages::Wall;
 use steps::Took;
-use steps::Wall;
 use steps::rows::copy;
 ghost use mathlib.Core.Path.{_≡_};
 ghost use mathlib.Core.Bool.{true};
@@ -13,7 +13,7 @@ ghost use Rattle.lines.specs.Wrote.{Wrote};
 ghost use Rattle.steps.specs.Shown.{row-shown, no-marks};
 ghost use Rattle.show.specs.Text.{texts-of};
 ghost use Rattle.steps.specs.Step.{step-of};
-ghost use Rattle.steps.specs.Fit.{place-fits, wall-fits};
+ghost use Rattle.stages.specs.Fit.{place-fits, wall-fits};
 ghost use Rattle.lines.specs.Row.{step-room};
 ghost use Rattle.steps.specs.Take.{took-of, Next-row};
 

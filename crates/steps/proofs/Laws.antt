@@ -1,3 +1,3 @@
 -- The laws of the definitions, each file over one of them.
-pub mod Taken
 pub mod Fit
+pub mod Taken

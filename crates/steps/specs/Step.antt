@@ -11,20 +11,9 @@ use Rattle.fields.specs.Field.{body}
 use Rattle.contents.specs.Contents.{settings-size, settings-in, start-size, times-in, row-size, marks-in, call-in}
 use Rattle.steps.specs.Shown.{Shown, turned-away, row-shown, no-marks}
 use Rattle.steps.specs.Number.{settings-number, start-number, row-number, row-offset}
-use Rattle.steps.specs.declared.Place.{Place}
-use Rattle.steps.specs.declared.Wall.{Wall}
-use Rattle.steps.specs.declared.Wall.the-variants.{New, Start, Row, End, Over}
-
-unfoldable pub place : Settings → (row offset : ℕ) → Place
-place s l at = record { settings = s; row = l; offset = at }
-
--- how many bytes of the file a step is given, fewer only where the file ends
-unfoldable pub due-size : Wall → ℕ
-due-size New = 3 + settings-size
-due-size (Start p) = 3 + start-size (p .settings .width)
-due-size (Row p) = row-size (p .settings .width)
-due-size (End p) = 1
-due-size Over = 0
+use Rattle.stages.specs.declared.Wall.{Wall}
+use Rattle.stages.specs.declared.Wall.the-variants.{New, Start, Row, End, Over}
+use Rattle.stages.specs.Fit.{place, due-size}
 
 -- what a step leaves: the wall as it then stands, the row, and what is shown
 pub record Stepped : Type 0 where

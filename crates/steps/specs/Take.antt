@@ -7,12 +7,12 @@ use lib.Dec.{eqb}
 use lib.ListN.{length}
 use Rattle.steps.specs.Step.{Stepped, step-of}
 use Rattle.steps.specs.Shown.{number-shown, offset-shown}
-use Rattle.steps.specs.Fit.{wall-fits}
-use Rattle.steps.specs.declared.Wall.{Wall}
-use Rattle.steps.specs.declared.Wall.the-variants.{New, Start, Row, End, Over}
+use Rattle.stages.specs.Fit.{wall-fits}
+use Rattle.stages.specs.declared.Wall.{Wall}
+use Rattle.stages.specs.declared.Wall.the-variants.{New, Start, Row, End, Over}
 use Rattle.steps.specs.declared.Took.{Took}
-use Rattle.steps.specs.declared.Take.{Take}
-use Rattle.steps.specs.declared.Take.the-variants as take
+use Rattle.steps.specs.declared.Taken.{Taken}
+use Rattle.steps.specs.declared.Taken.the-variants as take
 
 -- the wall of a step, with the number and the offset of its refusal
 unfoldable pub took : Wall → (number offset : ℕ) → Took
@@ -38,14 +38,14 @@ unfoldable pub takes : Wall → (row next : ℕ) → Bool
 takes x n m = wall-fits x n && wall-fits x m
 
 -- the answer, where a row of so many times is lent to be written: a step of the definition where both rows fit
-unfoldable pub take-of : Wall → (part row : List ℕ) → (next : ℕ) → Take
+unfoldable pub take-of : Wall → (part row : List ℕ) → (next : ℕ) → Taken
 take-of x bs ts n = cond (takes x (length ts) n) (take.Took (took-of (step-of x ts bs))) take.Unfit
 
 -- and that row afterwards
 unfoldable pub row-after : Wall → (part row held : List ℕ) → List ℕ
 row-after x bs ts held = cond (takes x (length ts) (length held)) (next-row x ts bs held) held
 
-pub record Taking (x : Wall) (part row held : List ℕ) (answer : Take) (next : List ℕ) : Type 0 where
+pub record Taking (x : Wall) (part row held : List ℕ) (answer : Taken) (next : List ℕ) : Type 0 where
   pub answered : answer ≡ take-of x part row (length held)
   pub written : next ≡ row-after x part row held
 

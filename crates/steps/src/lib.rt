@@ -1,40 +1,14 @@
 // A wall file, step by step. Each step is given the part of the file that is due and the row that the last
-// one left, writes the next row and answers the refusal, if any. `take`, `due` and `width` are operations: they
-// answer every input.
+// one left, writes the next row and answers the refusal, if any. `take` is an operation: it answers every input.
 mod row_step;
 pub mod rows;
 mod steps;
 
-use settings::Settings;
-ghost use mathlib.Core.Path.{_≡_};
-ghost use mathlib.Core.Bool.{cond};
+use stages::Wall;
+use stages::fits;
 ghost use Prim.Native.Nat.{_≤_};
 ghost use lib.ListN.{length};
-ghost use Rattle.steps.specs.Fit.{passes, due-of, width-of, place-fits, wall-fits};
 ghost use Rattle.steps.specs.Take.{Taking};
-
-// How far a file has been taken.
-pub struct Place {
-    pub settings: Settings,
-    // The last row accepted.
-    pub row: u64,
-    // The bytes taken.
-    pub offset: u64,
-}
-
-// What is due next.
-pub enum Wall {
-    // The settings.
-    New,
-    // Row 0.
-    Start(Place),
-    // The next row.
-    Row(Place),
-    // The end of the file.
-    End(Place),
-    // Nothing: the file has ended, or is turned away.
-    Over,
-}
 
 // The wall as a step leaves it. Where the file is turned away the number is not 0, and the offset is
 // that of the refusal.
@@ -44,120 +18,37 @@ pub struct Took {
     pub offset: u64,
 }
 
-pub enum Take {
+pub enum Taken {
     Took(Took),
     // What was lent does not fit the wall; nothing has changed.
     Unfit,
 }
 
-// The most bytes of a file that a step can take in account.
-pub const OFFSET_MOST: u64 = 4_294_967_295;
-
-impl Wall {
-    // How many bytes the next step is given, fewer only where the file ends.
-    pub fn due(self) -> usize
-        ensures due { λ r. ⌜ r ≡ due-of self ⌝ }
-        ensures few { λ r. ⌜ r ≤ 6710 ⌝ }
-    {
-        match self {
-            Wall::New => 27,
-            Wall::Start(place) => {
-                if place.settings.refusal() != 0 {
-                    return 0;
-                }
-                3 + 8 * place.settings.width as usize
-            }
-            Wall::Row(place) => {
-                if place.settings.refusal() != 0 {
-                    return 0;
-                }
-                row_fields::size(place.settings.width as usize)
-            }
-            Wall::End(_) => 1,
-            Wall::Over => 0,
-        }
-    }
-
-    // How many times the wall's row has; none before its settings are taken.
-    pub fn width(self) -> usize
-        ensures width { λ r. ⌜ r ≡ width-of self ⌝ }
-        ensures few { λ r. ⌜ r ≤ 256 ⌝ }
-    {
-        match self {
-            Wall::New => 0,
-            Wall::Start(place) => place_width(place),
-            Wall::Row(place) => place_width(place),
-            Wall::End(place) => place_width(place),
-            Wall::Over => 0,
-        }
-    }
-
-    // Takes the part of the file that is due. `row` is the wall's last, W times; `next` is written with
-    // row 0 or the next row where that is accepted.
-    pub fn take(self, part: &[u8], row: &[u64], next: &mut [u64]) -> Take
-        ensures { λ r. ⌜ Taking self (now (part .entry)) (now (row .entry)) (now (next .entry)) r (now (next .exit)) ⌝ }
-    {
-        let mut links = row_fields::link_space();
-        self.take_in(part, row, &mut links, next)
-    }
-
-    // The same with room for link values that is made once for all steps.
-    pub fn take_in(self, part: &[u8], row: &[u64], links: &mut [u64], next: &mut [u64]) -> Take
-        requires { ⌜ 770 ≤ length (now links) ⌝ }
-        ensures { λ r. ⌜ Taking self (now (part .entry)) (now (row .entry)) (now (next .entry)) r (now (next .exit)) ⌝ }
-    {
-        if !fits(self, row.len()) {
-            return Take::Unfit;
-        }
-        if !fits(self, next.len()) {
-            return Take::Unfit;
-        }
-        match self {
-            Wall::New => Take::Took(steps::settings(part)),
-            Wall::Start(place) => Take::Took(steps::start(place, part, next)),
-            Wall::Row(place) => Take::Took(row_step::row(place, part, row, links, next)),
-            Wall::End(place) => Take::Took(steps::end(place, part)),
-            Wall::Over => Take::Took(steps::went_on(self)),
-        }
-    }
+// Takes the part of the file that is due. `row` is the wall's last, W times; `next` is written with
+// row 0 or the next row where that is accepted.
+pub fn take(wall: Wall, part: &[u8], row: &[u64], next: &mut [u64]) -> Taken
+    ensures { λ r. ⌜ Taking wall (now (part .entry)) (now (row .entry)) (now (next .entry)) r (now (next .exit)) ⌝ }
+{
+    let mut links = row_fields::link_space();
+    take_in(wall, part, row, &mut links, next)
 }
 
-fn place_width(place: Place) -> usize
-    ensures width { λ r. ⌜ r ≡ cond (passes place) (place .settings .width) 0 ⌝ }
-    ensures few { λ r. ⌜ r ≤ 256 ⌝ }
+// The same with room for link values that is made once for all steps.
+pub fn take_in(wall: Wall, part: &[u8], row: &[u64], links: &mut [u64], next: &mut [u64]) -> Taken
+    requires { ⌜ 770 ≤ length (now links) ⌝ }
+    ensures { λ r. ⌜ Taking wall (now (part .entry)) (now (row .entry)) (now (next .entry)) r (now (next .exit)) ⌝ }
 {
-    let settings = place.settings;
-    if settings.refusal() != 0 {
-        return 0;
+    if !fits(wall, row.len()) {
+        return Taken::Unfit;
     }
-    settings.width as usize
-}
-
-// Whether a row that is lent is as long as the wall is wide.
-fn fits(wall: Wall, row: usize) -> bool
-    ensures { λ r. ⌜ r ≡ wall-fits wall row ⌝ }
-{
+    if !fits(wall, next.len()) {
+        return Taken::Unfit;
+    }
     match wall {
-        Wall::New => true,
-        Wall::Start(place) => place_fits(place, row),
-        Wall::Row(place) => place_fits(place, row),
-        Wall::End(place) => place_fits(place, row),
-        Wall::Over => true,
+        Wall::New => Taken::Took(steps::settings(part)),
+        Wall::Start(place) => Taken::Took(steps::start(place, part, next)),
+        Wall::Row(place) => Taken::Took(row_step::row(place, part, row, links, next)),
+        Wall::End(place) => Taken::Took(steps::end(place, part)),
+        Wall::Over => Taken::Took(steps::went_on(wall)),
     }
-}
-
-// Whether a place is one that steps leave, and the row is its wall's.
-fn place_fits(place: Place, row: usize) -> bool
-    ensures { λ r. ⌜ r ≡ place-fits place row ⌝ }
-{
-    if place.settings.refusal() != 0 {
-        return false;
-    }
-    if row as u64 != place.settings.width {
-        return false;
-    }
-    if place.settings.rows < place.row {
-        return false;
-    }
-    place.offset <= OFFSET_MOST
 }

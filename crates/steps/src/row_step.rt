@@ -1,17 +1,17 @@
 // The step that takes a row: its marks and tiles, and the row operation.
-use crate::Place;
 use crate::Took;
-use crate::Wall;
 use crate::steps::refused;
 use crate::steps::went_on;
 use row_fields::plan;
 use row_fields::size;
+use stages::Place;
+use stages::Wall;
 ghost use mathlib.Core.Path.{_≡_};
 ghost use mathlib.Core.Bool.{true};
 ghost use Prim.Native.Nat.{_+_, _≤_};
 ghost use lib.ListN.{length};
 ghost use Rattle.steps.specs.Step.{row-step, after-row};
-ghost use Rattle.steps.specs.Fit.{place-fits};
+ghost use Rattle.stages.specs.Fit.{place-fits};
 ghost use Rattle.steps.specs.Take.{took-of, row-left};
 
 pub fn row(place: Place, part: &[u8], row: &[u64], links: &mut [u64], next: &mut [u64]) -> Took

@@ -1,8 +1,8 @@
 // The steps that take the settings, row 0 and the end of the file.
-use crate::Place;
 use crate::Took;
-use crate::Wall;
 use settings::Checked;
+use stages::Place;
+use stages::Wall;
 ghost use mathlib.Core.Path.{_≡_};
 ghost use mathlib.Core.Bool.{true};
 ghost use mathlib.Core.List.{List};
@@ -10,9 +10,9 @@ ghost use Prim.Native.Nat.{ℕ, _≤_};
 ghost use lib.ListN.{length};
 ghost use Rattle.steps.specs.Number.{start-number};
 ghost use Rattle.steps.specs.Step.{settings-step, start-step, end-step};
-ghost use Rattle.steps.specs.Fit.{place-fits};
+ghost use Rattle.stages.specs.Fit.{place-fits};
 ghost use Rattle.steps.specs.Take.{took, took-of, row-left};
-ghost use Rattle.steps.specs.declared.Wall.the-variants.{Over};
+ghost use Rattle.stages.specs.declared.Wall.the-variants.{Over};
 
 pub fn settings(part: &[u8]) -> Took
     ensures { λ r. ⌜ ((row : List ℕ) → r ≡ took-of (settings-step row (now (part .entry)))) ⌝ }

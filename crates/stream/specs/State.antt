@@ -4,11 +4,11 @@ use mathlib.Core.Bool.{Bool, false, cond, _||_}
 use mathlib.Core.List.{List}
 use Prim.Native.Nat.{ℕ, _+_, _≤_}
 use lib.Dec.{ltb}
-use Rattle.steps.specs.Fit.{due-of}
+use Rattle.stages.specs.Fit.{due-of}
 use Rattle.lines.specs.Row.{step-room}
 use Rattle.window.specs.Window.{Within, lacking, Filled-up}
 use Rattle.file.specs.Stands.{Stands}
-use Rattle.steps.specs.declared.Wall.the-variants.{New}
+use Rattle.stages.specs.declared.Wall.the-variants.{New}
 use Rattle.stream.specs.declared.State.{State}
 use Rattle.stream.specs.declared.Ended.the-variants.{Done}
 use Rattle.stream.specs.declared.Turn.{Turn}

@@ -1,15 +1,15 @@
 // A run over a wall file, between two of its steps: what is read and not yet taken, and text not yet written.
 //
 // No contract can say which bytes a system call reads or writes. Those here say the rest.
-use steps::Wall;
+use stages::Wall;
 use window::Filled;
 use window::Window;
 ghost use mathlib.Core.Path.{_≡_};
 ghost use Prim.Native.Nat.{_≤_};
 ghost use lib.ListN.{length};
-ghost use Rattle.steps.specs.Fit.{due-of};
+ghost use Rattle.stages.specs.Fit.{due-of};
 ghost use Rattle.lines.specs.Row.{step-room};
-ghost use Rattle.steps.specs.declared.Wall.the-variants.{Over};
+ghost use Rattle.stages.specs.declared.Wall.the-variants.{Over};
 ghost use Rattle.stream.specs.State.{Starts, Between, made-ready};
 
 // How a run ended.

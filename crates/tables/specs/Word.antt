@@ -1,7 +1,7 @@
 -- Text as words, eight bytes as one number, the first byte lowest; and the tables of words. Assumes nothing.
 use mathlib.Core.Path.{_≡_}
 use mathlib.Core.List.{List, [], _∷_, _++_}
-use Prim.Native.Nat.{ℕ, zero, suc, _+_, _-_, _*_, _/_, _%_, _<_}
+use Prim.Native.Nat.{ℕ, zero, suc, _+_, _*_, _/_, _%_, _<_}
 use lib.ListN.{length, getD}
 use Rattle.lines.specs.Number.{glyph, decimal}
 use Rattle.lines.specs.Line.{space}

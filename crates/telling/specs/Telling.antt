@@ -11,9 +11,9 @@ use Rattle.lines.specs.Line.{refused-line}
 use Rattle.contents.specs.Contents.{marks-in}
 use Rattle.steps.specs.Step.{step-of}
 use Rattle.steps.specs.Shown.{number-shown, offset-shown}
-use Rattle.steps.specs.declared.Place.{Place}
-use Rattle.steps.specs.declared.Wall.{Wall}
-use Rattle.steps.specs.declared.Wall.the-variants.{New, Start, Row, End, Over}
+use Rattle.stages.specs.declared.Place.{Place}
+use Rattle.stages.specs.declared.Wall.{Wall}
+use Rattle.stages.specs.declared.Wall.the-variants.{New, Start, Row, End, Over}
 use Rattle.search_lines.specs.Text.{faulty-word, largest-word, line-text, gap-text}
 
 -- the lowest marked column below w, or w

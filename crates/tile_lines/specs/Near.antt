@@ -1,7 +1,7 @@
 -- Times near each other, which have their first digits in common. Assumes nothing.
 use mathlib.Core.Path.{_≡_}
 use mathlib.Core.List.{_++_}
-use Prim.Native.Nat.{ℕ, _+_, _-_, _^_, _≤_, _<_}
+use Prim.Native.Nat.{ℕ, _-_, _^_, _≤_, _<_}
 use lib.ListN.{length, drop}
 use Rattle.lines.specs.Number.{decimal}
 use Rattle.tile_lines.specs.declared.near.Near.{Near}

@@ -1,7 +1,7 @@
 -- The line of a tile after what the lines of a row begin with, and the codes of a row's tiles. Assumes nothing.
 use mathlib.Core.Bool.{Bool, cond}
 use mathlib.Core.List.{List, [], _∷_, _++_}
-use Prim.Native.Nat.{ℕ, _+_, _-_}
+use Prim.Native.Nat.{ℕ}
 use lib.ListN.{getD}
 use Rattle.columns.specs.Marks.{marked}
 use Rattle.lines.specs.Number.{decimal}
@@ -15,6 +15,6 @@ code f t = cond f 18446744073709551615 t
 unfoldable pub Coded : (codes marks times : List ℕ) → (count : ℕ) → Type 0
 Coded cs ms ts n = Holds cs 0 n (λ k. code (marked ms k) (getD ts k 0))
 
--- the line of a tile and of a seam, after what the lines of a row begin with
+-- the line of a tile, after what the lines of a row begin with
 unfoldable pub tile-after : (head : List ℕ) → (column : ℕ) → (faulty : Bool) → (time : ℕ) → List ℕ
 tile-after head c f t = head ++ spaced c ++ cond f dash (decimal t) ++ (line-end ∷ [])

@@ -8,14 +8,14 @@ use lib.ListN.{length}
 use Rattle.lines.specs.Wrote.{Wrote}
 use Rattle.show.specs.Text.{texts-of}
 use Rattle.steps.specs.Step.{Stepped, step-of}
-use Rattle.steps.specs.declared.Wall.{Wall}
+use Rattle.stages.specs.declared.Wall.{Wall}
 use Rattle.wall.specs.declared.Went.{Went}
 use Rattle.wall.specs.declared.Answer.{Answer}
 use Rattle.wall.specs.declared.Answer.the-variants as step
-use Rattle.steps.specs.Fit.{wall-fits}
+use Rattle.stages.specs.Fit.{wall-fits}
 use Rattle.lines.specs.Row.{step-room}
 
--- and the buffer has room for the text
+-- the row is the wall's, and the buffer has room for the text of any step
 unfoldable pub fits : Wall → (row room at : ℕ) → Bool
 fits x n room at = leb (at + step-room) room && wall-fits x n
 

@@ -2,14 +2,14 @@
 // operation: it answers every input.
 use lines::ROOM;
 use show::show;
-use steps::Take;
-use steps::Wall;
+use stages::Wall;
+use steps::Taken;
 ghost use mathlib.Core.Path.{_≡_};
 ghost use Prim.Native.Nat.{_+_, _≤_};
 ghost use lib.Dec.{leb};
 ghost use lib.ListN.{length};
 ghost use Rattle.tables.specs.Word.{Tables};
-ghost use Rattle.steps.specs.Fit.{width-of};
+ghost use Rattle.stages.specs.Fit.{width-of};
 ghost use Rattle.lines.specs.Row.{step-room};
 ghost use Rattle.wall.specs.Operation.{Stepping};
 
@@ -71,8 +71,8 @@ fn step_in(
     requires { ⌜ Tables (now tables) × (770 ≤ length (now links)) × (length (now next) ≡ width-of wall) × (at + step-room ≤ length (now out)) ⌝ }
     ensures { λ r. ⌜ Stepping wall (now (part .entry)) (now (row .entry)) (now (out .entry)) at r (now (row .exit)) (now (out .exit)) ⌝ }
 {
-    match wall.take_in(part, row, links, next) {
-        Take::Took(took) => {
+    match steps::take_in(wall, part, row, links, next) {
+        Taken::Took(took) => {
             let next_wall = took.wall;
             let end = show(tables, wall, took, part, next, row, out, at);
             Answer::Went(Went {
@@ -80,7 +80,7 @@ fn step_in(
                 end,
             })
         }
-        Take::Unfit => Answer::Unfit,
+        Taken::Unfit => Answer::Unfit,
     }
 }
 

@@ -12,18 +12,18 @@ use Rattle.steps.specs.Shown.{Shown}
 use Rattle.show.specs.Text.{texts-of, text-of}
 use Rattle.steps.specs.Number.{start-number}
 use Rattle.file.specs.File.{wall-text}
-use Rattle.steps.specs.Step.{stepped, away, due-size, step-of, steps-shown}
-use Rattle.steps.specs.Fit.{due-of, wall-fits}
+use Rattle.steps.specs.Step.{stepped, away, step-of, steps-shown}
+use Rattle.stages.specs.Fit.{due-size, due-of, wall-fits}
 use Rattle.wall.specs.Operation.{fits, went-to, Stepping}
 use Rattle.file.specs.Program.{Calls, over, lent, took}
-use Rattle.steps.specs.declared.Place.{Place}
-use Rattle.steps.specs.declared.Wall.{Wall}
-use Rattle.steps.specs.declared.Wall.the-variants.{New, Start}
+use Rattle.stages.specs.declared.Place.{Place}
+use Rattle.stages.specs.declared.Wall.{Wall}
+use Rattle.stages.specs.declared.Wall.the-variants.{New, Start}
 use Rattle.wall.specs.declared.Went.{Went}
 use Rattle.wall.specs.declared.Answer.{Answer}
 use Rattle.wall.specs.declared.Answer.the-variants as step
 use Rattle.wall.proofs.Laws.Fit.{fits-all}
-use Rattle.steps.proofs.Laws.Fit.{fits-due}
+use Rattle.stages.proofs.Laws.{fits-due}
 use Rattle.steps.proofs.Laws.Taken.{start-goes, start-away}
 use Rattle.file.proofs.Laws.Steps.{one-step, nothing-more, steps-right}
 

@@ -10,13 +10,13 @@ use Rattle.settings.proofs.Laws.Cases.{by-equal, by-order}
 use Rattle.row.specs.Row.{row-of}
 use Rattle.columns.proofs.Laws.Lists.{table-length}
 use Rattle.steps.specs.Number.{settings-number, start-number, row-number}
-use Rattle.steps.specs.Step.{place, stepped, away, after-row, step-of}
-use Rattle.steps.specs.Fit.{passes, width-of, wall-fits}
+use Rattle.stages.specs.Fit.{place, passes, width-of, wall-fits}
+use Rattle.steps.specs.Step.{stepped, away, after-row, step-of}
 use Rattle.file.specs.Program.{Reached, new, lend, next}
 use Rattle.file.specs.Stands.{Stands}
-use Rattle.steps.specs.declared.Place.{Place}
-use Rattle.steps.specs.declared.Wall.{Wall}
-use Rattle.steps.specs.declared.Wall.the-variants.{New, Start, Row, End, Over}
+use Rattle.stages.specs.declared.Place.{Place}
+use Rattle.stages.specs.declared.Wall.{Wall}
+use Rattle.stages.specs.declared.Wall.the-variants.{New, Start, Row, End, Over}
 use Rattle.contents.proofs.Laws.Contents.{times-length}
 use Rattle.steps.proofs.Laws.Taken.{settings-away, settings-goes, start-away, start-goes, row-away, row-goes, end-away, end-goes}
 use Rattle.file.proofs.Laws.Stands.{step-stands, stands-fits}

@@ -13,13 +13,13 @@ use Rattle.settings.proofs.Laws.Settings.{limits}
 use Rattle.fields.specs.Field.{field-refusal, body}
 use Rattle.contents.specs.Contents.{settings-size, settings-in, row-size}
 use Rattle.steps.specs.Number.{settings-number, start-number, row-number}
-use Rattle.steps.specs.Step.{place, due-size, stepped, away, settings-step, start-step, after-row, row-step, end-step, step-of}
-use Rattle.steps.specs.Fit.{passes, due-of, width-of, place-fits, wall-fits}
-use Rattle.steps.specs.declared.Place.{Place}
-use Rattle.steps.specs.declared.Wall.{Wall}
-use Rattle.steps.specs.declared.Wall.the-variants.{New, Start, Row, End, Over}
+use Rattle.stages.specs.Fit.{place, due-size, passes, due-of, width-of, place-fits, wall-fits}
+use Rattle.steps.specs.Step.{stepped, away, settings-step, start-step, after-row, row-step, end-step, step-of}
+use Rattle.stages.specs.declared.Place.{Place}
+use Rattle.stages.specs.declared.Wall.{Wall}
+use Rattle.stages.specs.declared.Wall.the-variants.{New, Start, Row, End, Over}
 use Rattle.contents.proofs.Laws.Contents.{row-small}
-use Rattle.steps.proofs.Laws.Fit.{fits-due}
+use Rattle.stages.proofs.Laws.{fits-due}
 use Rattle.fields.proofs.Laws.Field.{else-none}
 use Rattle.file.specs.Stands.{Stood, Stands, steps-left}
 

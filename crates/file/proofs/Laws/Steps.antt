@@ -15,9 +15,10 @@ use Rattle.fields.specs.Field.{field-refusal, body}
 use Rattle.contents.specs.Contents.{settings-size, settings-in, start-size, times-in, row-size, call-in}
 use Rattle.steps.specs.Number.{settings-number, start-number, row-number}
 use Rattle.file.specs.File.{rows-shown, start-shown, shown}
-use Rattle.steps.specs.Step.{place, due-size, stepped, away, settings-step, start-step, after-row, row-step, end-step, step-of, steps-shown}
-use Rattle.steps.specs.declared.Wall.{Wall}
-use Rattle.steps.specs.declared.Wall.the-variants.{New, Start, Row, End, Over}
+use Rattle.stages.specs.Fit.{place, due-size}
+use Rattle.steps.specs.Step.{stepped, away, settings-step, start-step, after-row, row-step, end-step, step-of, steps-shown}
+use Rattle.stages.specs.declared.Wall.{Wall}
+use Rattle.stages.specs.declared.Wall.the-variants.{New, Start, Row, End, Over}
 use Rattle.fields.proofs.Laws.Field.{else-none}
 use Rattle.file.proofs.Laws.Part.{settings-part, start-part, row-part, offset-part, marks-part, call-part, body-part}
 

@@ -1,7 +1,7 @@
 -- `place_in` meets its contract. Assumes nothing.
 use mathlib.Core.Path.{refl}
 use Rattle.settings.specs.Settings.{settings}
-use Rattle.steps.specs.Step.{place}
+use Rattle.stages.specs.Fit.{place}
 use Rattle.layout.specs.Words.{settings-from, place-in}
 use borrow.Author.Needs.{needs}
 use Rattle.layout.proofs.place_in.Statement.{statement}

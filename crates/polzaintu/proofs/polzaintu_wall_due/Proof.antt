@@ -1,6 +1,6 @@
 -- `polzaintu_wall_due` meets its contract. Assumes nothing.
 use mathlib.Core.Path.{_∙_, ap}
-use Rattle.steps.specs.Fit.{due-of}
+use Rattle.stages.specs.Fit.{due-of}
 use borrow.Author.Needs.{needs}
 use Rattle.polzaintu.proofs.polzaintu_wall_due.Statement.{statement}
 use Rattle.polzaintu.proofs.polzaintu_wall_due.Tie as tie

@@ -3,7 +3,7 @@ use mathlib.Core.Path.{_≡_, sym, _∙_, ap}
 use lib.ListN.{length}
 use borrow.Author.Tests.{eq-eqb, ne-eqb}
 use Rattle.steps.specs.Take.{take-of, row-after}
-use Rattle.steps.specs.declared.Wall.{Wall}
+use Rattle.stages.specs.declared.Wall.{Wall}
 use Rattle.layout.specs.Words.{place-in, wall-in, wall-words}
 use Rattle.polzaintu.specs.Answers.{step-number, wall-left, offset-left}
 use borrow.Author.Needs.{needs}

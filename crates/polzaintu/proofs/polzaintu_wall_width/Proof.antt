@@ -1,6 +1,6 @@
 -- `polzaintu_wall_width` meets its contract. Assumes nothing.
 use mathlib.Core.Path.{_∙_, ap}
-use Rattle.steps.specs.Fit.{width-of}
+use Rattle.stages.specs.Fit.{width-of}
 use borrow.Author.Needs.{needs}
 use Rattle.polzaintu.proofs.polzaintu_wall_width.Statement.{statement}
 use Rattle.polzaintu.proofs.polzaintu_wall_width.Tie as tie

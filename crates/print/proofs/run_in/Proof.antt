@@ -5,7 +5,7 @@ use Prim.Native.Nat.{_≤_}
 use native.Mathlib.Omega.{arith}
 use borrow.Author.Needs.{needs}
 use lib.ListN.{length}
-use Rattle.steps.specs.Fit.{due-of}
+use Rattle.stages.specs.Fit.{due-of}
 use Rattle.file.specs.Stands.{steps-left}
 use Rattle.stream.specs.State.{Between}
 use Rattle.file.proofs.Laws.Stands.{none-due}

@@ -2,19 +2,19 @@
 -- Assumes nothing.
 use mathlib.Core.Path.{_≡_, refl, sym, _∙_, ap}
 use mathlib.Core.List.{_∷_, append-assoc, [], _++_}
+use mathlib.Core.Bool.{Bool, true, false, cond, not, _&&_, _||_, true≢false}
 use Prim.Native.Nat.{ℕ, _+_, _-_, _≤_}
+use lib.Dec.{T, ltb, leb}
+use lib.ListN.{length, length-append}
+use lib.Ieee.{Float, nan, inf, fin, binary64, toBits, isNan}
+use lib.Ieee.Exact.{HasValue}
+use native.Mathlib.Omega.{arith}
+use borrow.Author.Tests.{leb-true, le-leb}
 use Rattle.seam.specs.declared.Seam.{Seam}
 use Rattle.seam.specs.declared.Seam.the-variants.{Closed, Open, Refused}
 use Rattle.lines.specs.Line.{space, seam-head, seam-line, s-line, line-end, halves-words, open-words, side-word}
 use Rattle.tables.specs.Word.{spaced}
 use Rattle.seam_lines.specs.Seam.{seam-after}
-use mathlib.Core.Bool.{Bool, true, false, cond, not, _&&_, _||_, true≢false}
-use native.Mathlib.Omega.{arith}
-use lib.Dec.{T, ltb, leb}
-use lib.ListN.{length, length-append}
-use lib.Ieee.{Float, nan, inf, fin, binary64, toBits, isNan}
-use lib.Ieee.Exact.{HasValue}
-use borrow.Author.Tests.{leb-true, le-leb}
 use Rattle.settings.proofs.Laws.Refusal.{neither}
 use Rattle.seam.specs.Seam.{latest, halves, late, joined, seam-of}
 use Rattle.seam.specs.Promises.{Halves-exact}

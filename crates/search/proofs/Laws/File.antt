@@ -18,11 +18,12 @@ use Rattle.contents.specs.Contents.{start-size, times-in, row-size, marks-in, c
 use Rattle.steps.specs.Number.{settings-number, start-number, row-number, row-offset}
 use Rattle.steps.specs.Shown.{row-shown, no-marks, number-shown, offset-shown}
 use Rattle.file.specs.Stands.{Stands}
-use Rattle.steps.specs.Step.{Stepped, place, due-size, stepped, away, after-row, step-of}
+use Rattle.steps.specs.Step.{Stepped, stepped, away, after-row, step-of}
+use Rattle.stages.specs.Fit.{place, due-size}
 use Rattle.steps.specs.Take.{row-left, next-row}
-use Rattle.steps.specs.declared.Place.{Place}
-use Rattle.steps.specs.declared.Wall.{Wall}
-use Rattle.steps.specs.declared.Wall.the-variants.{New, Start, Row, End, Over}
+use Rattle.stages.specs.declared.Place.{Place}
+use Rattle.stages.specs.declared.Wall.{Wall}
+use Rattle.stages.specs.declared.Wall.the-variants.{New, Start, Row, End, Over}
 use Rattle.file.proofs.Laws.Part.{marks-part}
 use Rattle.file.proofs.Laws.Steps.{part-enough}
 use Rattle.steps.proofs.Laws.Taken.{settings-away, settings-goes, start-away, start-goes, row-away, row-goes, end-away, end-goes, no-number}

@@ -5,12 +5,12 @@ use mathlib.Core.List.{List, _++_}
 use Prim.Native.Nat.{ℕ, _+_, _-_, min}
 use lib.ListN.{length, take, drop}
 use lib.Seq.{take-at}
-use Rattle.steps.specs.Fit.{due-of, width-of}
+use Rattle.stages.specs.Fit.{due-of, width-of}
 use Rattle.file.specs.Stands.{Stands, steps-left}
 use Rattle.steps.specs.Take.{takes, Taking}
-use Rattle.steps.specs.declared.Take.{Take}
-use Rattle.steps.specs.declared.Take.the-variants as take
-use Rattle.steps.specs.declared.Wall.{Wall}
+use Rattle.steps.specs.declared.Taken.{Taken}
+use Rattle.steps.specs.declared.Taken.the-variants as take
+use Rattle.stages.specs.declared.Wall.{Wall}
 use Rattle.file.proofs.Laws.Stands.{Ahead, stands-fits}
 use Rattle.steps.proofs.Laws.Taken.{unfit-step}
 use Rattle.stream.specs.State.{Between}
@@ -21,7 +21,7 @@ use Rattle.search.specs.declared.Search.{Search}
 use Rattle.telling.proofs.Laws.Telling.{told-ahead}
 
 -- a wall that stands takes its step, with rows of its width
-pub never-unfit : {x : Wall} {part row held next : List ℕ} {answer : Take} → Stands x → length row ≡ width-of x → length held ≡ width-of x →
+pub never-unfit : {x : Wall} {part row held next : List ℕ} {answer : Taken} → Stands x → length row ≡ width-of x → length held ≡ width-of x →
     Taking x part row held answer next → answer ≡ take.Unfit → ⊥
 unfolding takes
 never-unfit {x} {part} {row} {held} i n m k e =

@@ -4,7 +4,7 @@ use mathlib.Core.Path.{_≡_, refl, sym, _∙_, ap}
 use Prim.Native.Nat.{_≤_}
 use native.Mathlib.Omega.{arith}
 use lib.ListN.{length}
-use Rattle.steps.specs.Fit.{due-of}
+use Rattle.stages.specs.Fit.{due-of}
 use Rattle.file.specs.Stands.{steps-left}
 use Rattle.file.proofs.Laws.Stands.{none-due}
 use Rattle.stream.specs.State.{Between}

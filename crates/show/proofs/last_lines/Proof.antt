@@ -10,7 +10,7 @@ use Rattle.columns.specs.Marks.{mark-bytes}
 use Rattle.lines.proofs.Laws.Wrote.{wrote-as}
 use Rattle.show.specs.Text.{texts-of}
 use Rattle.steps.specs.Shown.{row-shown, no-marks}
-use Rattle.steps.proofs.Laws.Fit.{fit-of}
+use Rattle.stages.proofs.Laws.{fit-of}
 use Rattle.show.proofs.Laws.{zeros}
 use borrow.Author.Needs.{needs}
 use Rattle.show.proofs.last_lines.Statement.{statement}

@@ -13,14 +13,14 @@ use Rattle.fields.specs.Field.{body}
 use Rattle.contents.specs.Contents.{marks-in}
 use Rattle.show.specs.Text.{texts-of}
 use Rattle.steps.specs.Shown.{row-shown, number-shown, offset-shown}
-use Rattle.steps.specs.Fit.{place-fits, wall-fits}
+use Rattle.stages.specs.Fit.{place-fits, wall-fits}
 use Rattle.steps.specs.Step.{step-of}
 use Rattle.steps.specs.Take.{took, took-of}
-use Rattle.steps.specs.declared.Place.{Place}
+use Rattle.stages.specs.declared.Place.{Place}
 use Rattle.steps.specs.declared.Took.{Took}
-use Rattle.steps.specs.declared.Wall.{Wall}
-use Rattle.steps.specs.declared.Wall.the-variants.{Start, Row, End}
-use Rattle.steps.proofs.Laws.Fit.{Fit, fit-of}
+use Rattle.stages.specs.declared.Wall.{Wall}
+use Rattle.stages.specs.declared.Wall.the-variants.{Start, Row, End}
+use Rattle.stages.proofs.Laws.{Fit, fit-of}
 use Rattle.show.proofs.Laws.{away-shows, new-shows, over-shows, start-shows, row-shows, row-marks, end-shows, start-next, row-next}
 use borrow.Author.Needs.{needs}
 use Rattle.show.proofs.show.Statement.{statement}

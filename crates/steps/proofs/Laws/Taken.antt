@@ -17,14 +17,15 @@ use Rattle.fields.specs.Field.{field-refusal, body, or-else}
 use Rattle.contents.specs.Contents.{settings-size, settings-in, start-size, times-in, tiles-size, marks-field, row-size, marks-in, call-in}
 use Rattle.steps.specs.Shown.{Shown, row-shown, no-marks, number-shown, offset-shown}
 use Rattle.steps.specs.Number.{settings-number, start-number, row-number, row-offset}
-use Rattle.steps.specs.Step.{place, stepped, away, settings-step, start-step, after-row, row-step, end-step, step-of}
+use Rattle.stages.specs.Fit.{place}
+use Rattle.steps.specs.Step.{stepped, away, settings-step, start-step, after-row, row-step, end-step, step-of}
 use Rattle.steps.specs.Take.{took, took-of, row-left, next-row, takes, take-of, row-after, Taking}
-use Rattle.steps.specs.declared.Wall.{Wall}
+use Rattle.stages.specs.declared.Wall.{Wall}
 use Rattle.steps.specs.declared.Took.{Took}
-use Rattle.steps.specs.declared.Take.{Take}
-use Rattle.steps.specs.declared.Take.the-variants as take
+use Rattle.steps.specs.declared.Taken.{Taken}
+use Rattle.steps.specs.declared.Taken.the-variants as take
 use Rattle.fields.proofs.Laws.Field.{else-first, else-other}
-use Rattle.steps.specs.declared.Wall.the-variants.{Start, Row, Over}
+use Rattle.stages.specs.declared.Wall.the-variants.{Start, Row, Over}
 
 module _ (row bs : List ℕ) where
   pub settings-away : (n : ℕ) → n ≡ settings-number bs → (n ≡ 0 → ⊥) → settings-step row bs ≡ away row n 0
@@ -158,7 +159,7 @@ pub record Took-step (x : Wall) (part row held : List ℕ) (t : Took) (next : Li
   pub is : t ≡ took-of (step-of x row part)
   pub written : next ≡ next-row x row part held
 
-module _ {x : Wall} {part row held next : List ℕ} {answer : Take} (k : Taking x part row held answer next) where
+module _ {x : Wall} {part row held next : List ℕ} {answer : Taken} (k : Taking x part row held answer next) where
   pub took-step : {t : Took} → answer ≡ take.Took t → Took-step x part row held t next
   unfolding take-of row-after
   took-step {t} e = go (takes x (length row) (length held)) refl (k .answered) (k .written)

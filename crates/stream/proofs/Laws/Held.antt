@@ -3,18 +3,18 @@ use mathlib.Core.Path.{_≡_, refl}
 use mathlib.Core.Bool.{Bool, true, false}
 use mathlib.Core.Logic.{_⊎_, inl, inr}
 use mathlib.Core.List.{List, [], _++_, append-nil}
-use Prim.Native.Nat.{ℕ, suc, _+_, _-_, _<_}
+use Prim.Native.Nat.{ℕ, suc, _-_, _<_}
 use native.Mathlib.Omega.{arith}
 use borrow.Author.Tests.{ltb-true, ltb-false}
 use lib.Dec.{eqb, ltb}
 use lib.ListN.{length, take, drop, length-take, length-drop}
 use lib.Seq.{take-append-le, drop-append-le}
 use Rattle.steps.specs.Number.{start-number, row-number}
-use Rattle.steps.specs.Step.{place, stepped, away, start-step, after-row, row-step, end-step, step-of}
-use Rattle.steps.specs.Fit.{passes, width-of}
-use Rattle.steps.specs.declared.Place.{Place}
-use Rattle.steps.specs.declared.Wall.{Wall}
-use Rattle.steps.specs.declared.Wall.the-variants.{Start, Row, End, Over}
+use Rattle.stages.specs.Fit.{place, passes, width-of}
+use Rattle.steps.specs.Step.{stepped, away, start-step, after-row, row-step, end-step, step-of}
+use Rattle.stages.specs.declared.Place.{Place}
+use Rattle.stages.specs.declared.Wall.{Wall}
+use Rattle.stages.specs.declared.Wall.the-variants.{Start, Row, End, Over}
 use Rattle.window.specs.Window.{Within, bytes-in, lacking}
 use Rattle.window.specs.declared.Window.{Window}
 

@@ -9,7 +9,7 @@ use lib.Dec.{ltb}
 use lib.ListN.{length, take, drop, length-take, length-drop, length-append, drop-of-length-le}
 use lib.Seq.{take-take, take-all, take-add, drop-at, drop-drop, length-take-le}
 use Rattle.lines.specs.Wrote.{Wrote}
-use Rattle.steps.specs.Fit.{due-of}
+use Rattle.stages.specs.Fit.{due-of}
 use Rattle.lines.specs.Row.{step-room}
 use Rattle.window.specs.Window.{Within, bytes-in, lacking, filled-up}
 use Rattle.file.specs.Stands.{Stands}

@@ -1,7 +1,7 @@
 -- Eight digits as four pairs, decimal and hexadecimal. Assumes nothing.
 use mathlib.Core.Path.{_≡_, refl, sym, _∙_, ap}
 use mathlib.Core.List.{List, [], _∷_, _++_, append-assoc, append-nil}
-use Prim.Native.Nat.{ℕ, zero, suc, _+_, _-_, _*_, _/_, _%_, _^_, _≤_, _<_}
+use Prim.Native.Nat.{ℕ, zero, suc, _+_, _*_, _/_, _%_, _^_, _≤_, _<_}
 use native.Mathlib.Nat.{mod-lt, div-lt-iff-lt-mul, div-div-eq-div-mul, pow-succ', mul-assoc}
 use native.Mathlib.Omega.{arith}
 use Rattle.lines.specs.Number.{glyph, hexadecimal}

@@ -12,12 +12,12 @@ use Rattle.reach.specs.declared.survey.Surveyed.the-variants as surveyed
 use Rattle.lines.specs.Line.{refused-line}
 use Rattle.lines.specs.Wrote.{Wrote}
 use Rattle.steps.specs.Shown.{number-shown, offset-shown}
-use Rattle.steps.specs.Fit.{due-of}
+use Rattle.stages.specs.Fit.{due-of}
 use Rattle.file.specs.Stands.{Stands, steps-left}
 use Rattle.steps.specs.Step.{step-of}
-use Rattle.steps.specs.declared.Place.{Place}
-use Rattle.steps.specs.declared.Wall.{Wall}
-use Rattle.steps.specs.declared.Wall.the-variants.{New, Start, Row, End, Over}
+use Rattle.stages.specs.declared.Place.{Place}
+use Rattle.stages.specs.declared.Wall.{Wall}
+use Rattle.stages.specs.declared.Wall.the-variants.{New, Start, Row, End, Over}
 use Rattle.file.proofs.Laws.Stands.{Ahead, step-ahead, step-stands}
 use Rattle.search_lines.specs.Text.{faulty-word, line-text}
 use Rattle.telling.specs.Telling.{first-marked, Telling, says, survey-says, row-says, step-says, telling}

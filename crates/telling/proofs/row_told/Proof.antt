@@ -6,8 +6,8 @@ use native.Mathlib.Omega.{arith}
 use Rattle.settings.proofs.Laws.Settings.{limits}
 use Rattle.reach.specs.declared.survey.Surveyed.{Surveyed}
 use Rattle.lines.proofs.Laws.Wrote.{wrote-none}
-use Rattle.steps.specs.declared.Wall.the-variants.{Over}
-use Rattle.steps.proofs.Laws.Fit.{Fit, fit-of}
+use Rattle.stages.specs.declared.Wall.the-variants.{Over}
+use Rattle.stages.proofs.Laws.{Fit, fit-of}
 use Rattle.telling.specs.Telling.{first-marked, survey-says, row-says}
 use Rattle.telling.proofs.Laws.Telling.{said, row-faulty, row-clean}
 use borrow.Author.Needs.{needs}

@@ -12,12 +12,12 @@ use Rattle.lines.proofs.Laws.Wrote.{wrote-none, wrote-as}
 use Rattle.contents.specs.Contents.{marks-in}
 use Rattle.fields.specs.Field.{body}
 use Rattle.steps.specs.Shown.{number-shown, offset-shown}
-use Rattle.steps.specs.Fit.{place-fits, wall-fits}
+use Rattle.stages.specs.Fit.{place-fits, wall-fits}
 use Rattle.steps.specs.Step.{step-of}
 use Rattle.steps.specs.Take.{took, took-of}
 use Rattle.steps.specs.declared.Took.{Took}
-use Rattle.steps.specs.declared.Wall.{Wall}
-use Rattle.steps.proofs.Laws.Fit.{fit-of}
+use Rattle.stages.specs.declared.Wall.{Wall}
+use Rattle.stages.proofs.Laws.{fit-of}
 use Rattle.show.proofs.Laws.{row-there}
 use Rattle.telling.specs.Telling.{Telling, says, row-says, step-says, telling}
 use Rattle.telling.specs.Said.{Said}

@@ -2,15 +2,15 @@
 use mathlib.Core.Path.{_≡_}
 use mathlib.Core.Bool.{Bool, true, false, cond}
 use mathlib.Core.List.{_∷_, append-assoc, List, _++_}
-use Prim.Native.Nat.{ℕ, _-_, _≤_, zero, suc, _+_, _*_}
+use Prim.Native.Nat.{ℕ, _≤_, zero, suc, _+_, _*_}
+use lib.ListN.{length, length-append, getD}
+use native.Mathlib.Omega.{arith}
+use native.Mathlib.Numerals.{add-one}
 use Rattle.lines.specs.Line.{space, t-line, dash}
 use Rattle.tables.specs.Word.{spaced}
 use Rattle.tile_lines.specs.Tile.{tile-after}
-use native.Mathlib.Omega.{arith}
-use lib.ListN.{length, length-append, getD}
 use Rattle.lines.specs.Number.{decimal}
 use Rattle.lines.proofs.Laws.Number.{decimal-length, decimal-length-3, decimal-length-4}
-use native.Mathlib.Numerals.{add-one}
 use Rattle.columns.specs.Marks.{marked}
 use Rattle.lines.specs.Row.{each-below, tile-text}
 

@@ -1,7 +1,7 @@
 -- `near_digits` meets its contract. Assumes nothing.
 use mathlib.Core.Path.{sym}
 use native.Mathlib.Omega.{arith}
-use Prim.Native.Nat.{_-_, _/_, _^_}
+use Prim.Native.Nat.{_/_, _^_}
 use borrow.Author.Needs.{needs}
 use Rattle.lines.proofs.Laws.Number.{decimal-length}
 use Rattle.lines.proofs.Laws.Wrote.{wrote-then, wrote-as}

@@ -4,10 +4,10 @@ use mathlib.Core.Bool.{true, false, and-eq-true-iff}
 use Prim.Native.Nat.{ℕ, _+_, _≤_, _<_}
 use lib.Dec.{leb}
 use borrow.Author.Tests.{le-leb, lt-leb, leb-true}
-use Rattle.steps.specs.Fit.{wall-fits}
+use Rattle.stages.specs.Fit.{wall-fits}
 use Rattle.wall.specs.Operation.{fits}
 use Rattle.lines.specs.Row.{step-room}
-use Rattle.steps.specs.declared.Wall.{Wall}
+use Rattle.stages.specs.declared.Wall.{Wall}
 
 module _ (x : Wall) (n room at : ℕ) where
   pub no-room : room < at + step-room → fits x n room at ≡ false

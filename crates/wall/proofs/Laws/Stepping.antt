@@ -8,7 +8,7 @@ use Rattle.lines.specs.Wrote.{Wrote}
 use Rattle.show.specs.Text.{texts-of}
 use Rattle.steps.specs.Step.{step-of}
 use Rattle.wall.specs.Operation.{fits, went-to, Stepping}
-use Rattle.steps.specs.declared.Wall.{Wall}
+use Rattle.stages.specs.declared.Wall.{Wall}
 use Rattle.wall.specs.declared.Answer.the-variants as step
 
 module _ (x : Wall) (part row held : List ℕ) (at : ℕ) where

@@ -8,10 +8,10 @@ use Rattle.row_cases.proofs.handed.drifts.Statement.{statement}
 use Rattle.row_cases.proofs.handed.drifts.Tie as tie
 
 abbrev Inv-loop : tie.InvT-loop
-Inv-loop kind fifth all₀ c₀ all c = (c ≤ 256) × (length all ≡ 1024)
+Inv-loop kind at5 all₀ c₀ all c = (c ≤ 256) × (length all ≡ 1024)
 
 abbrev μ-loop : tie.MeasureT-loop
-μ-loop kind fifth all₀ c₀ all c = 256 - c
+μ-loop kind at5 all₀ c₀ all c = 256 - c
 
 loop-holds : tie.Need-loop-holds Inv-loop μ-loop
 loop-holds c = search needs

@@ -1,6 +1,7 @@
 -- `row_step::after` meets its contract. Assumes nothing.
 use borrow.Author.Tests.{lt-ltb, le-ltb}
-use Rattle.steps.specs.Step.{place, after-row}
+use Rattle.stages.specs.Fit.{place}
+use Rattle.steps.specs.Step.{after-row}
 use borrow.Author.Needs.{needs}
 use Rattle.steps.proofs.row_step.after.Statement.{statement}
 use Rattle.steps.proofs.row_step.after.Tie as tie

@@ -10,10 +10,10 @@ use Rattle.fields.specs.Field.{field-refusal}
 use Rattle.contents.specs.Contents.{marks-field, row-size, marks-in}
 use Rattle.steps.specs.Step.{Stepped, after-row}
 use Rattle.steps.specs.Take.{took, took-of, row-left}
-use Rattle.steps.specs.declared.Wall.{Wall}
+use Rattle.stages.specs.declared.Wall.{Wall}
 use Rattle.contents.proofs.Laws.Contents.{row-small}
 use Rattle.row_fields.proofs.Laws.{worked-away, worked-row}
-use Rattle.steps.proofs.Laws.Fit.{Fit, fit-of}
+use Rattle.stages.proofs.Laws.{Fit, fit-of}
 use Rattle.steps.proofs.Laws.Taken.{row-away, row-goes, number-of-marks, offset-of-marks, number-of-row, offset-of-row, took-away, took-on, left-away, left-on, no-number}
 use borrow.Author.Needs.{needs}
 use Rattle.steps.proofs.row_step.row.Statement.{statement}

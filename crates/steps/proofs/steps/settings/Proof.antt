@@ -5,7 +5,7 @@ use Prim.Native.Nat.{ℕ}
 use Rattle.settings.specs.Settings.{settings-refusal, checked}
 use Rattle.steps.specs.Number.{settings-number}
 use Rattle.steps.specs.Shown.{number-shown, offset-shown}
-use Rattle.steps.specs.Step.{place}
+use Rattle.stages.specs.Fit.{place}
 use Rattle.fields.specs.Field.{field-refusal, body}
 use Rattle.contents.specs.Contents.{settings-in}
 use Rattle.steps.specs.Take.{took-of}

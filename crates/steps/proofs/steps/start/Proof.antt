@@ -8,12 +8,13 @@ use Rattle.settings.proofs.Laws.Settings.{limits}
 use Rattle.fields.specs.Field.{field-refusal}
 use Rattle.steps.specs.Number.{start-number}
 use Rattle.steps.specs.Shown.{number-shown, offset-shown}
-use Rattle.steps.specs.Step.{Stepped, place}
+use Rattle.steps.specs.Step.{Stepped}
+use Rattle.stages.specs.Fit.{place}
 use Rattle.steps.specs.Take.{took, took-of, row-left}
-use Rattle.steps.specs.declared.Wall.the-variants.{Row}
+use Rattle.stages.specs.declared.Wall.the-variants.{Row}
 use Rattle.fields.proofs.Laws.Field.{else-none}
 use Rattle.contents.proofs.Laws.Contents.{body-length}
-use Rattle.steps.proofs.Laws.Fit.{Fit, fit-of}
+use Rattle.stages.proofs.Laws.{Fit, fit-of}
 use Rattle.steps.proofs.Laws.Taken.{start-away, start-goes, took-away, took-on, left-away, left-on}
 use borrow.Author.Needs.{needs}
 use Rattle.steps.proofs.steps.start.Statement.{statement}

@@ -1,9 +1,9 @@
 -- `fits` meets its contract. Assumes nothing.
 use mathlib.Core.Path.{sym, _∙_}
-use Rattle.steps.specs.Fit.{wall-fits}
+use Rattle.stages.specs.Fit.{wall-fits}
 use borrow.Author.Needs.{needs}
-use Rattle.steps.proofs.fits.Statement.{statement}
-use Rattle.steps.proofs.fits.Tie as tie
+use Rattle.stages.proofs.fits.Statement.{statement}
+use Rattle.stages.proofs.fits.Tie as tie
 
 enum-told : tie.Need-enum-told
 enum-told c = search needs

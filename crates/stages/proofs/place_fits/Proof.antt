@@ -1,10 +1,10 @@
 -- `place_fits` meets its contract: at each `return` the tests passed and the one met. Assumes nothing.
 use mathlib.Core.Path.{_≡_, sym, _∙_}
 use Rattle.settings.specs.Settings.{settings-refusal}
-use Rattle.steps.proofs.Laws.Fit.{not-passed, other-length, past-rows, by-offset}
+use Rattle.stages.proofs.Laws.{not-passed, other-length, past-rows, by-offset}
 use borrow.Author.Needs.{needs}
-use Rattle.steps.proofs.place_fits.Statement.{statement}
-use Rattle.steps.proofs.place_fits.Tie as tie
+use Rattle.stages.proofs.place_fits.Statement.{statement}
+use Rattle.stages.proofs.place_fits.Tie as tie
 
 refusal-requires : tie.Need-refusal-requires
 refusal-requires c κs = search needs

@@ -1,12 +1,25 @@
--- What fits a wall, and what is due. Assumes nothing.
+-- A place in a wall file, what is due there, and what fits it. Assumes nothing.
 use mathlib.Core.Bool.{Bool, true, cond, _&&_}
-use Prim.Native.Nat.{ℕ}
+use Prim.Native.Nat.{ℕ, _+_}
 use lib.Dec.{eqb, leb}
+use Rattle.settings.specs.declared.Settings.{Settings}
+use Rattle.contents.specs.Contents.{settings-size, start-size, row-size}
+use Rattle.stages.specs.declared.Place.{Place}
+use Rattle.stages.specs.declared.Wall.{Wall}
+use Rattle.stages.specs.declared.Wall.the-variants.{New, Start, Row, End, Over}
 use Rattle.settings.specs.Settings.{settings-refusal}
-use Rattle.steps.specs.Step.{due-size}
-use Rattle.steps.specs.declared.Place.{Place}
-use Rattle.steps.specs.declared.Wall.{Wall}
-use Rattle.steps.specs.declared.Wall.the-variants.{New, Start, Row, End, Over}
+
+-- a place, by its settings, the last row accepted and the bytes taken
+unfoldable pub place : Settings → (row offset : ℕ) → Place
+place s l at = record { settings = s; row = l; offset = at }
+
+-- how many bytes of the file a step is given, fewer only where the file ends
+unfoldable pub due-size : Wall → ℕ
+due-size New = 3 + settings-size
+due-size (Start p) = 3 + start-size (p .settings .width)
+due-size (Row p) = row-size (p .settings .width)
+due-size (End p) = 1
+due-size Over = 0
 
 -- "each operation given one repeats them": of a wall whose settings don't pass nothing is due
 unfoldable pub passes : Place → Bool

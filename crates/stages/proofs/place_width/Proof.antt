@@ -3,10 +3,10 @@ use mathlib.Core.Path.{sym, _∙_}
 use native.Mathlib.Omega.{arith}
 use borrow.Author.Tests.{eq-eqb, ne-eqb}
 use Rattle.settings.proofs.Laws.Settings.{limits}
-use Rattle.steps.specs.Fit.{passes}
+use Rattle.stages.specs.Fit.{passes}
 use borrow.Author.Needs.{needs}
-use Rattle.steps.proofs.place_width.Statement.{statement}
-use Rattle.steps.proofs.place_width.Tie as tie
+use Rattle.stages.proofs.place_width.Statement.{statement}
+use Rattle.stages.proofs.place_width.Tie as tie
 
 refusal-requires : tie.Need-refusal-requires
 refusal-requires c κs = search needs

@@ -4,13 +4,12 @@ use Prim.Native.Nat.{_≤_}
 use native.Mathlib.Omega.{arith}
 use Rattle.settings.specs.Settings.{settings-refusal}
 use Rattle.settings.proofs.Laws.Settings.{limits}
-use Rattle.steps.specs.Fit.{due-of}
-use Rattle.steps.specs.Step.{due-size}
+use Rattle.stages.specs.Fit.{due-of, due-size}
 use Rattle.contents.proofs.Laws.Contents.{row-small}
-use Rattle.steps.proofs.Laws.Fit.{none-due, all-due}
+use Rattle.stages.proofs.Laws.{none-due, all-due}
 use borrow.Author.Needs.{needs}
-use Rattle.steps.proofs.Wall.due.Statement.{statement}
-use Rattle.steps.proofs.Wall.due.Tie as tie
+use Rattle.stages.proofs.Wall.due.Statement.{statement}
+use Rattle.stages.proofs.Wall.due.Tie as tie
 
 enum-told : tie.Need-enum-told
 enum-told c = search needs

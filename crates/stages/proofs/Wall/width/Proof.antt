@@ -1,9 +1,9 @@
 -- `Wall::width` meets its contract: the wall by its case. Assumes nothing.
 use native.Mathlib.Omega.{arith}
-use Rattle.steps.specs.Fit.{width-of}
+use Rattle.stages.specs.Fit.{width-of}
 use borrow.Author.Needs.{needs}
-use Rattle.steps.proofs.Wall.width.Statement.{statement}
-use Rattle.steps.proofs.Wall.width.Tie as tie
+use Rattle.stages.proofs.Wall.width.Statement.{statement}
+use Rattle.stages.proofs.Wall.width.Tie as tie
 
 enum-told : tie.Need-enum-told
 enum-told c = search needs
