@@ -2,4 +2,4 @@
 pub mod Line
 pub mod Neighbours
 pub mod Runs
-pub mod Halves
+pub mod Room

@@ -1,14 +1,23 @@
 -- The line of a seam after what the lines of a row begin with, and the lines of a run of seams. Assumes nothing.
+use mathlib.Core.Bool.{not}
 use mathlib.Core.List.{List, [], _∷_, _++_}
 use Prim.Native.Nat.{ℕ, _+_, _-_}
+use lib.Dec.{T}
 use lib.ListN.{getD}
+use lib.Ieee.{isNan}
 use Rattle.columns.specs.Marks.{marked}
 use Rattle.seam.specs.Seam.{seam-of}
+use Rattle.seam.specs.declared.Halves.{Halves}
 use Rattle.seam.specs.declared.Seam.{Seam}
 use Rattle.seam.specs.declared.Seam.the-variants.{Closed, Open, Refused}
 use Rattle.lines.specs.Line.{line-end, halves-words, open-words}
 use Rattle.lines.specs.Row.{each-below}
 use Rattle.tables.specs.Word.{spaced}
+
+-- halves whose bits can be taken
+pub record Numbers (h : Halves) : Type 0 where
+  pub midpoint : T (not (isNan (h .midpoint)))
+  pub half-gap : T (not (isNan (h .«half_gap»)))
 
 -- the line of a seam, after what the lines of a row begin with
 unfoldable pub seam-after : (head : List ℕ) → (left right : ℕ) → Seam → List ℕ

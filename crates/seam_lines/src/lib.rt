@@ -1,29 +1,34 @@
 // The lines of a row's seams.
 use columns::marked;
-use lines::word;
+use seam::Halves;
 use seam::LATEST;
 use seam::Seam;
 use seam::Side;
-use tables::COLUMNS;
-use tables::LENGTHS;
-use words::eight_hexadecimal;
+use words::column;
 use words::head::Head;
-use words::put;
+use words::put_first;
+use words::sixteen_hexadecimal;
 ghost use mathlib.Core.Path.{_≡_};
-ghost use mathlib.Core.Bool.{_&&_};
 ghost use mathlib.Core.List.{[], _∷_, _++_};
 ghost use Prim.Native.Nat.{_+_, _-_, _*_, _≤_, _<_};
-ghost use lib.Dec.{leb};
 ghost use lib.ListN.{length, getD};
 ghost use Rattle.columns.specs.Marks.{marked, mark-bytes};
-ghost use Rattle.seam.specs.Seam.{latest, halves, seam-of};
-ghost use Rattle.lines.specs.Number.{hexadecimal};
-ghost use Rattle.lines.specs.Line.{space, line-end, halves-words, open-words};
+ghost use Rattle.seam.specs.Seam.{seam-of};
+ghost use Rattle.lines.specs.Line.{line-end, halves-words, open-words, side-word};
 ghost use Rattle.lines.specs.Row.{each-below, each-of, right-neighbours, seam-text};
-ghost use Rattle.tables.specs.Word.{bytes, word-of, spaced, Tables};
+ghost use Rattle.tables.specs.Word.{bytes, spaced, Tables};
 ghost use Rattle.tile_lines.specs.Tile.{Coded};
-ghost use Rattle.seam_lines.specs.Seam.{seam-after, run-after};
+ghost use Rattle.seam_lines.specs.Seam.{Numbers, seam-after, run-after};
 ghost use Rattle.lines.specs.Wrote.{Wrote};
+
+// The words of an open seam, the first byte lowest: `open` and a space, a side and the end of the line.
+const OPEN: u64 = 0x20_6e65_706f;
+
+const LEFT: u64 = 0x0a_7466_656c;
+
+const RIGHT: u64 = 0x0a74_6867_6972;
+
+const BOTH: u64 = 0x0a_6874_6f62;
 
 // Writes the lines: by left and then right, so 0 and 2 stand after 0 and 1, and W - 3 and W - 1 before the
 // last.
@@ -93,20 +98,31 @@ fn seam(
     requires { ⌜ (length (now marks) ≡ mark-bytes (length (now times))) × (length (now times) ≤ length (now codes)) × Coded (now codes) (now marks) (now times) (length (now times)) × (at + 49 ≤ length (now out)) ⌝ }
     ensures { λ r. ⌜ Wrote (now (out .entry)) at (seam-after (bytes (head .length) (head .word)) a b (seam-of (getD (now (times .entry)) a 0) (marked (now (marks .entry)) a) (getD (now (times .entry)) b 0) (marked (now (marks .entry)) b))) (now (out .exit)) r ⌝ }
 {
+    let answer = joined(marks, times, codes, a, b);
     let words = labels(tables, head, a, b, out, at);
-    let left = codes[a];
-    let right = codes[b];
-    if in_time(left, right) {
-        return closed_words(tables, left, right, out, words);
-    }
-    let left_faulty = marked(marks, a);
-    let right_faulty = marked(marks, b);
-    let answer = seam::join(times[a], left_faulty, times[b], right_faulty);
     match answer {
-        Seam::Closed(_) => at,
+        Seam::Closed(halves) => closed_words(tables, halves, out, words),
         Seam::Open(faulty) => open_words(faulty, out, words),
         Seam::Refused(_) => at,
     }
+}
+
+// The seam of two columns. Two codes in time are the times of correct tiles, and most are.
+fn joined(marks: &[u8], times: &[u64], codes: &[u64], a: usize, b: usize) -> Seam
+    requires { ⌜ (a < length (now times)) × (b < length (now times)) × (length (now times) ≤ 256) × (length (now marks) ≡ mark-bytes (length (now times))) ⌝ }
+    requires { ⌜ (length (now times) ≤ length (now codes)) × Coded (now codes) (now marks) (now times) (length (now times)) ⌝ }
+    ensures { λ r. ⌜ r ≡ seam-of (getD (now (times .entry)) a 0) (marked (now (marks .entry)) a) (getD (now (times .entry)) b 0) (marked (now (marks .entry)) b) ⌝ }
+{
+    let left = codes[a];
+    let right = codes[b];
+    if left <= LATEST {
+        if right <= LATEST {
+            return seam::join(left, false, right, false);
+        }
+    }
+    let left_faulty = marked(marks, a);
+    let right_faulty = marked(marks, b);
+    seam::join(times[a], left_faulty, times[b], right_faulty)
 }
 
 // What the line of a seam begins with: the row's head and the two columns.
@@ -115,82 +131,53 @@ fn labels(tables: &[u64], head: Head, a: usize, b: usize, out: &mut [u8], at: us
     ensures { λ r. ⌜ Wrote (now (out .entry)) at (bytes (head .length) (head .word) ++ spaced a ++ spaced b) (now (out .exit)) r ⌝ }
     ensures { λ r. ⌜ r ≤ at + 15 ⌝ }
 {
-    put(head.word, out, at);
-    let first = at + head.length;
-    put(tables[COLUMNS + a], out, first);
-    let second = first + tables[LENGTHS + a] as usize;
-    put(tables[COLUMNS + b], out, second);
-    second + tables[LENGTHS + b] as usize
+    let first = put_first(head.word, head.length, out, at);
+    let second = column(tables, a, out, first);
+    column(tables, b, out, second)
 }
 
-fn in_time(left: u64, right: u64) -> bool
-    ensures { λ r. ⌜ r ≡ (leb left latest && leb right latest) ⌝ }
+// The words of a closed seam. The last digits of the half gap are mostly zeros.
+fn closed_words(tables: &[u64], halves: Halves, out: &mut [u8], at: usize) -> usize
+    requires { ⌜ Tables (now tables) × Numbers halves × (at + 34 ≤ length (now out)) ⌝ }
+    ensures { λ r. ⌜ Wrote (now (out .entry)) at (halves-words halves ++ (line-end ∷ [])) (now (out .exit)) r ⌝ }
 {
-    left <= LATEST && right <= LATEST
-}
-
-// The words of a closed seam.
-fn closed_words(tables: &[u64], left: u64, right: u64, out: &mut [u8], at: usize) -> usize
-    requires { ⌜ Tables (now tables) × (left ≤ latest) × (right ≤ latest) × (at + 34 ≤ length (now out)) ⌝ }
-    ensures { λ r. ⌜ Wrote (now (out .entry)) at (halves-words (halves left right) ++ (line-end ∷ [])) (now (out .exit)) r ⌝ }
-{
-    let answer = seam::join(left, false, right, false);
-    match answer {
-        Seam::Closed(halves) => halves_words(
-            tables,
-            f64::to_bits(halves.midpoint),
-            f64::to_bits(halves.half_gap),
-            out,
-            at,
-        ),
-        Seam::Open(_) => at,
-        Seam::Refused(_) => at,
-    }
-}
-
-// The bits of the midpoint and of the half gap, whose last digits are mostly zeros.
-fn halves_words(tables: &[u64], midpoint: u64, half_gap: u64, out: &mut [u8], at: usize) -> usize
-    requires { ⌜ Tables (now tables) × (at + 34 ≤ length (now out)) ⌝ }
-    ensures { λ r. ⌜ Wrote (now (out .entry)) at ((hexadecimal 16 midpoint ++ (space ∷ hexadecimal 16 «half_gap»)) ++ (line-end ∷ [])) (now (out .exit)) r ⌝ }
-{
-    put(eight_hexadecimal(tables, (midpoint >> 32) as u32), out, at);
-    put(
-        eight_hexadecimal(tables, (midpoint % 0x1_0000_0000) as u32),
+    let next = sixteen_hexadecimal(tables, f64::to_bits(halves.midpoint), false, b' ', out, at);
+    sixteen_hexadecimal(
+        tables,
+        f64::to_bits(halves.half_gap),
+        true,
+        b'\n',
         out,
-        at + 8,
-    );
-    out[at + 16] = b' ';
-    put(
-        eight_hexadecimal(tables, (half_gap >> 32) as u32),
-        out,
-        at + 17,
-    );
-    put(
-        often_zeros(tables, (half_gap % 0x1_0000_0000) as u32),
-        out,
-        at + 25,
-    );
-    out[at + 33] = b'\n';
-    at + 34
+        next,
+    )
 }
 
-fn often_zeros(tables: &[u64], n: u32) -> u64
-    requires { ⌜ Tables (now tables) ⌝ }
-    ensures { λ r. ⌜ r ≡ word-of (hexadecimal 8 n) ⌝ }
-{
-    if n == 0 {
-        return 0x3030_3030_3030_3030;
-    }
-    eight_hexadecimal(tables, n)
-}
-
+// The words of an open seam.
 fn open_words(faulty: Side, out: &mut [u8], at: usize) -> usize
-    requires { ⌜ at + 11 ≤ length (now out) ⌝ }
+    requires { ⌜ at + 13 ≤ length (now out) ⌝ }
     ensures { λ r. ⌜ Wrote (now (out .entry)) at (open-words faulty ++ (line-end ∷ [])) (now (out .exit)) r ⌝ }
 {
+    let side = side_word(faulty);
+    let next = put_first(OPEN, 5, out, at);
+    put_first(side.word, side.length, out, next)
+}
+
+// The side that is faulty, and the end of the line.
+fn side_word(faulty: Side) -> Head
+    ensures { λ r. ⌜ (bytes (r .length) (r .word) ≡ side-word faulty ++ (line-end ∷ [])) × (r .length ≤ 6) ⌝ }
+{
     match faulty {
-        Side::Left => word(b"open left\n", out, at),
-        Side::Right => word(b"open right\n", out, at),
-        Side::Both => word(b"open both\n", out, at),
+        Side::Left => Head {
+            word: LEFT,
+            length: 5,
+        },
+        Side::Right => Head {
+            word: RIGHT,
+            length: 6,
+        },
+        Side::Both => Head {
+            word: BOTH,
+            length: 5,
+        },
     }
 }
