@@ -95,7 +95,7 @@ fn read_part(from: i32, window: Window, due: usize, input: &mut [u8]) -> Filled
 {
     let mut window = window;
     while window.lacks(due) {
-        match read_once(from, window, input) {
+        match take_in(from, window, input) {
             Filled::Ready(next) => {
                 window = next;
             }
@@ -107,8 +107,9 @@ fn read_part(from: i32, window: Window, due: usize, input: &mut [u8]) -> Filled
     Filled::Ready(window)
 }
 
-// Reads once, behind the window. With room there, no byte means that the input has ended.
-fn read_once(from: i32, window: Window, input: &mut [u8]) -> Filled
+// Takes bytes in from the system, behind the window; the edge of the proof on that side. With room there, no byte
+// means that the input has ended.
+fn take_in(from: i32, window: Window, input: &mut [u8]) -> Filled
     requires { ⌜ (window .start ≤ window .end) × (window .end < length (now input)) ⌝ }
     ensures { λ r. ⌜ read-on window (now (input .entry)) r (now (input .exit)) ⌝ }
 {

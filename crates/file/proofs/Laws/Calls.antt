@@ -27,7 +27,7 @@ use Rattle.stages.proofs.Laws.{fits-due}
 use Rattle.steps.proofs.Laws.Taken.{start-goes, start-away}
 use Rattle.file.proofs.Laws.Steps.{one-step, nothing-more, steps-right}
 
-texts-append : (xs ys : List Shown) → texts-of (xs ++ ys) ≡ texts-of xs ++ texts-of ys
+pub texts-append : (xs ys : List Shown) → texts-of (xs ++ ys) ≡ texts-of xs ++ texts-of ys
 unfolding texts-of
 texts-append [] ys = refl
 texts-append (x ∷ xs) ys = ap (λ (t : List ℕ). text-of x ++ t) (texts-append xs ys) ∙ sym (append-assoc (text-of x) (texts-of xs) (texts-of ys))

@@ -20,7 +20,6 @@ use Rattle.steps.specs.Shown.{row-shown, no-marks, number-shown, offset-shown}
 use Rattle.file.specs.Stands.{Stands}
 use Rattle.steps.specs.Step.{Stepped, stepped, away, after-row, step-of}
 use Rattle.stages.specs.Fit.{place, due-size}
-use Rattle.steps.specs.Take.{row-left, next-row}
 use Rattle.stages.specs.declared.Place.{Place}
 use Rattle.stages.specs.declared.Wall.{Wall}
 use Rattle.stages.specs.declared.Wall.the-variants.{New, Start, Row, End, Over}
@@ -28,7 +27,7 @@ use Rattle.file.proofs.Laws.Part.{marks-part}
 use Rattle.file.proofs.Laws.Steps.{part-enough}
 use Rattle.steps.proofs.Laws.Taken.{settings-away, settings-goes, start-away, start-goes, row-away, row-goes, end-away, end-goes, no-number}
 use Rattle.telling.specs.Telling.{first-marked, says, survey-says, step-says, telling}
-use Rattle.search.specs.File.{with-lines, rows-told, start-told, file-told}
+use Rattle.range.specs.File.{with-lines, rows-told, start-told, file-told}
 use Rattle.telling.proofs.Laws.Telling.{row-faulty, row-clean, told-away, told-on}
 
 -- what is told from a wall on; row 0 and the settings don't read the row that is lent
@@ -57,16 +56,16 @@ part-told asked (Row p) m ts bs = rw (part-enough (Row p) ts bs, marks-part (p .
 part-told asked (End p) m ts bs = rw (part-enough (End p) ts bs)
 part-told asked Over m ts bs = rw (part-enough Over ts bs)
 
--- what a step tells, and what is told from the wall that it leaves
-abbrev pub goes-on : (asked : List ℕ) → Wall → (m : ℕ) → (row after rest : List ℕ) → List ℕ
-goes-on asked x m ts us bs =
+-- what a step tells, and what is told from the wall and the row that it leaves
+abbrev pub goes-on : (asked : List ℕ) → Wall → (m : ℕ) → (row rest : List ℕ) → List ℕ
+goes-on asked x m ts bs =
     let t = telling asked x m ts bs in
-    t .text ++ from asked (t .wall) (t .largest) us (drop (due-size x) bs)
+    t .text ++ from asked (t .wall) (t .largest) (step-of x ts bs .row) (drop (due-size x) bs)
 
 module _ (asked : List ℕ) where
   -- a step that is turned away
-  told-refused : (x : Wall) (m : ℕ) (ts us bs : List ℕ) (n at : ℕ) → step-of x ts bs ≡ away ts n at → (n ≡ 0 → ⊥) → goes-on asked x m ts us bs ≡ refused-line n at
-  told-refused x m ts us bs n at e k =
+  told-refused : (x : Wall) (m : ℕ) (ts bs : List ℕ) (n at : ℕ) → step-of x ts bs ≡ away ts n at → (n ≡ 0 → ⊥) → goes-on asked x m ts bs ≡ refused-line n at
+  told-refused x m ts bs n at e k =
       let number : number-shown (step-of x ts bs .shows) ≡ n = rw e (unfold away stepped number-shown in refl) in
       let offset : offset-shown (step-of x ts bs .shows) ≡ at = rw e (unfold away stepped offset-shown in refl) in
       let wall : step-of x ts bs .next ≡ Over = rw e (unfold away stepped in refl) in
@@ -81,25 +80,24 @@ module _ (asked : List ℕ) where
       ∙ ap (λ (o : Stepped). step-says asked x (o .next) m ts bs) e
       ∙ (unfold stepped in refl)
 
-  settings-told : (m : ℕ) (ts us bs : List ℕ) → from asked New m ts bs ≡ goes-on asked New m ts us bs
+  settings-told : (m : ℕ) (ts bs : List ℕ) → from asked New m ts bs ≡ goes-on asked New m ts bs
   unfolding file-told step-of step-says says place due-size number-shown
-  settings-told m ts us bs =
+  settings-told m ts bs =
       by-equal (settings-number bs) 0
       (λ e. let t = told-taken New _ m ts ts bs [] (settings-goes ts bs e) refl in rw (eq-eqb (settings-number bs) 0 e, t))
-      (λ k. rw (ne-eqb (settings-number bs) 0 k) (sym (told-refused New m ts us bs (settings-number bs) 0 (settings-away ts bs (settings-number bs) refl k) k)))
+      (λ k. rw (ne-eqb (settings-number bs) 0 k) (sym (told-refused New m ts bs (settings-number bs) 0 (settings-away ts bs (settings-number bs) refl k) k)))
 
-  start-begun : (p : Place) (m : ℕ) (ts us bs : List ℕ) (held : List ℕ) → 1 ≤ p .settings .rows →
-      us ≡ row-left (step-of (Start p) ts bs) held → from asked (Start p) m ts bs ≡ goes-on asked (Start p) m ts us bs
-  unfolding start-told step-of step-says says place due-size number-shown row-left stepped
-  start-begun p m ts us bs held i row =
+  start-begun : (p : Place) (m : ℕ) (ts bs : List ℕ) → 1 ≤ p .settings .rows → from asked (Start p) m ts bs ≡ goes-on asked (Start p) m ts bs
+  unfolding start-told step-of step-says says place due-size number-shown stepped
+  start-begun p m ts bs i =
       let s = p .settings in
       by-equal (start-number s bs) 0
       (λ e. let go = start-goes ts bs s (p .offset) e in
       let t = told-taken (Start p) _ m ts _ bs [] go refl in
-      let times : us ≡ times-in (s .width) (body (start-size (s .width)) bs) = rw go at row in
+      let times : step-of (Start p) ts bs .row ≡ times-in (s .width) (body (start-size (s .width)) bs) = ap (λ (o : Stepped). o .row) go in
       let all : s .rows - 0 ≡ s .rows = omega arith in
       rw (eq-eqb (start-number s bs) 0 e, t, times, all))
-      (λ k. rw (ne-eqb (start-number s bs) 0 k) (sym (told-refused (Start p) m ts us bs (start-number s bs) (p .offset) (start-away ts bs s (p .offset) (start-number s bs) refl k) k)))
+      (λ k. rw (ne-eqb (start-number s bs) 0 k) (sym (told-refused (Start p) m ts bs (start-number s bs) (p .offset) (start-away ts bs s (p .offset) (start-number s bs) refl k) k)))
 
   -- a row without faults, by its survey
   row-surveyed : (p : Place) (after : Wall) (m : ℕ) (v : Surveyed) (us bs : List ℕ) (rest : ℕ → List ℕ) →
@@ -111,11 +109,11 @@ module _ (asked : List ℕ) where
   row-surveyed p after m surveyed.Outside us bs rest h = refl
   row-surveyed p after m (surveyed.Refused n) us bs rest h = refl
 
-  row-begun : (p : Place) (m : ℕ) (ts us bs : List ℕ) (held : List ℕ) → p .row < p .settings .rows →
-      us ≡ row-left (step-of (Row p) ts bs) held → from asked (Row p) m ts bs ≡ goes-on asked (Row p) m ts us bs
-  unfolding rows-told step-of step-says says due-size row-left stepped
-  row-begun p m ts us bs held i row =
+  row-begun : (p : Place) (m : ℕ) (ts bs : List ℕ) → p .row < p .settings .rows → from asked (Row p) m ts bs ≡ goes-on asked (Row p) m ts bs
+  unfolding rows-told step-of step-says says due-size stepped
+  row-begun p m ts bs i =
       let s = p .settings in
+      let us = step-of (Row p) ts bs .row in
       let w = s .width in
       let c = first-marked w (marks-in w bs) in
       let more : s .rows - p .row ≡ suc (s .rows - suc (p .row)) = omega (arith, i) in
@@ -123,7 +121,7 @@ module _ (asked : List ℕ) where
       (λ e. let go = row-goes ts bs s (p .offset) (p .row) e in
       let z = no-number s (p .row) (marks-in w bs) ts in
       let t = told-taken (Row p) _ m ts _ bs _ go (z .0) in
-      let times : us ≡ row-of s ts (call-in w bs) = rw (go, eq-eqb (number-shown (row-shown s (p .row) (marks-in w bs) ts)) 0 (z .0)) at row in
+      let times : us ≡ row-of s ts (call-in w bs) = ap (λ (o : Stepped). o .row) go in
       let later : (k : ℕ) → from asked (after-row s (suc (p .row)) (p .offset + row-size w)) k us (drop (row-size w) bs)
       ≡ rows-told s asked (s .rows - suc (p .row)) (suc (p .row)) (p .offset + row-size w) k us (drop (row-size w) bs) =
       λ k. after-told asked s (suc (p .row)) (p .offset + row-size w) k us (drop (row-size w) bs) (omega (arith, i)) in
@@ -134,22 +132,22 @@ module _ (asked : List ℕ) where
       (λ j. let faulty = row-faulty asked p (after-row s (suc (p .row)) (p .offset + row-size w)) m (marks-in w bs) ts c refl j in
       rw (more, eq-eqb (row-number s ts bs) 0 e, lt-ltb c w j, t, faulty) (sym (append-nil _))))
       (λ k. rw (more, ne-eqb (row-number s ts bs) 0 k)
-      (sym (told-refused (Row p) m ts us bs (row-number s ts bs) (row-offset s (p .offset) bs) (row-away ts bs s (p .offset) (p .row) (row-number s ts bs) (row-offset s (p .offset) bs) refl k refl) k)))
+      (sym (told-refused (Row p) m ts bs (row-number s ts bs) (row-offset s (p .offset) bs) (row-away ts bs s (p .offset) (p .row) (row-number s ts bs) (row-offset s (p .offset) bs) refl k refl) k)))
 
-  end-begun : (p : Place) (m : ℕ) (ts us bs : List ℕ) → from asked (End p) m ts bs ≡ goes-on asked (End p) m ts us bs
+  end-begun : (p : Place) (m : ℕ) (ts bs : List ℕ) → from asked (End p) m ts bs ≡ goes-on asked (End p) m ts bs
   unfolding rows-told step-of step-says says
-  end-begun p m ts us bs =
+  end-begun p m ts bs =
       let s = p .settings in
       by-equal (length bs) 0
       (λ e. let t = told-taken (End p) _ m ts _ bs _ (end-goes ts bs s (p .offset) (p .row) e) (no-number s (p .row) (no-marks (s .width)) ts .0) in
       rw (eq-eqb (length bs) 0 e, t) (sym (append-nil _)))
-      (λ k. rw (ne-eqb (length bs) 0 k) (sym (told-refused (End p) m ts us bs 44 (p .offset) (end-away ts bs s (p .offset) (p .row) k) (λ z. let never : ⊥ = omega arith in never))))
+      (λ k. rw (ne-eqb (length bs) 0 k) (sym (told-refused (End p) m ts bs 44 (p .offset) (end-away ts bs s (p .offset) (p .row) k) (λ z. let never : ⊥ = omega arith in never))))
 
-  -- each step of a wall that stands tells its part of the whole, with the row that was written
-  pub one-step : (x : Wall) (m : ℕ) (ts us bs held : List ℕ) → Stands x → us ≡ next-row x ts bs held → from asked x m ts bs ≡ goes-on asked x m ts us bs
-  unfolding Stands next-row
-  one-step New m ts us bs held i row = settings-told m ts us bs
-  one-step (Start p) m ts us bs held i row = start-begun p m ts us bs held (limits (p .settings) (i .0 .pass) .rows .0) row
-  one-step (Row p) m ts us bs held i row = row-begun p m ts us bs held (i .1) row
-  one-step (End p) m ts us bs held i row = end-begun p m ts us bs
-  one-step Over m ts us bs held i row = unfold telling step-of step-says says stepped number-shown due-size in refl
+  -- each step of a wall that stands tells its part of the whole
+  pub one-step : (x : Wall) (m : ℕ) (ts bs : List ℕ) → Stands x → from asked x m ts bs ≡ goes-on asked x m ts bs
+  unfolding Stands
+  one-step New m ts bs i = settings-told m ts bs
+  one-step (Start p) m ts bs i = start-begun p m ts bs (limits (p .settings) (i .0 .pass) .rows .0)
+  one-step (Row p) m ts bs i = row-begun p m ts bs (i .1)
+  one-step (End p) m ts bs i = end-begun p m ts bs
+  one-step Over m ts bs i = unfold telling step-of step-says says stepped number-shown due-size in refl

@@ -22,8 +22,8 @@ use Rattle.file.proofs.Laws.Limits.{keeps}
 use Rattle.file.proofs.Laws.Rows.{Grown, early-of, grows, call-accepted}
 use Rattle.search_lines.specs.Text.{largest-word, line-text, gap-text}
 use Rattle.telling.specs.Telling.{first-in, first-marked}
-use Rattle.search.specs.File.{with-lines, rows-told}
-use Rattle.search.specs.Promises.{gaps-text}
+use Rattle.range.specs.File.{with-lines, rows-told}
+use Rattle.range.specs.Promises.{gaps-text}
 
 -- with no mark the lowest marked column is none
 none-in : (n c : ℕ) (ms : List ℕ) → ((k : ℕ) → c ≤ k → k < c + n → marked ms k ≡ false) → first-in n c ms ≡ c + n

@@ -1,4 +1,4 @@
--- `read_once` meets its contract. Assumes nothing.
+-- `take_in` meets its contract. Assumes nothing.
 use Prim.Native.Nat.{_≤_, _-_}
 use native.Mathlib.Omega.{arith}
 use borrow.Rule.Slice.PartMut.{take-put}
@@ -6,8 +6,8 @@ use lib.ListN.{length, length-take, length-drop}
 use Rattle.window.specs.Window.{read-on}
 use Rattle.window.proofs.Laws.Window.{read-behind}
 use borrow.Author.Needs.{needs}
-use Rattle.window.proofs.read_once.Statement.{statement}
-use Rattle.window.proofs.read_once.Tie as tie
+use Rattle.window.proofs.take_in.Statement.{statement}
+use Rattle.window.proofs.take_in.Tie as tie
 
 sub-read : tie.Need-sub-read
 sub-read c = search needs
@@ -55,8 +55,8 @@ returns-2 c =
     let room : args .window .end ≤ length (args .input .now) = omega arith in
     read-behind (args .window) _ _ (c .count .result) ordered (omega arith) (take-put (args .window .end) (length (args .input .now) - args .window .end) (args .input .now) (c .before .before .before .before .before .before .read .last .1 .0) room)
 
-pub read-once-spec : {M : Type 1} → statement M
-read-once-spec =
+pub take-in-spec : {M : Type 1} → statement M
+take-in-spec =
     tie.close
     (tie.spec
     sub-read
