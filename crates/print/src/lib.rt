@@ -89,7 +89,7 @@ fn advance(
     ) {
         Answer::Went(went) => {
             let next = went.wall;
-            state.stepped(next, went.end)
+            state.stepped(stop, next, went.end)
         }
         Answer::Unfit => state,
     }

@@ -116,7 +116,7 @@ fn advance(
     );
     let after = told.wall;
     Search {
-        state: state.stepped(after, told.end),
+        state: state.stepped(stop, after, told.end),
         largest: told.largest,
     }
 }

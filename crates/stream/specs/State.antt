@@ -51,11 +51,13 @@ unfoldable pub made-ready : State → (before : List ℕ) → (output : ℕ) →
 made-ready s before n (On r) after = Made-ready s before n r after
 made-ready s before n (Stop e) after = e ≡ Done → ⊥
 
+-- where the due part ends in the buffer, or what there is of it
+abbrev pub part-end : State → ℕ
+part-end s = s .window .start + min (due-of (s .wall)) (s .window .end - s .window .start)
+
 -- after a step: its wall, the bytes behind the due part, and text up to so many bytes
 unfoldable pub stepped : State → Wall → (text : ℕ) → State
-stepped s x n =
-    let w = s .window in
-    record { wall = x; window = record { start = w .start + min (due-of (s .wall)) (w .end - w .start); end = w .end; ended = w .ended }; text = n }
+stepped s x n = record { wall = x; window = record { start = part-end s; end = s .window .end; ended = s .window .ended }; text = n }
 
 -- what a step of the due part leaves: its text stands behind what stood in the buffer, and its row in the row's place, unless the wall is over
 pub record Advanced {K : Type 0} (step : Step K) (s : State) (k : K) (input times output : List ℕ) (r : State) (l : K) (times-after output-after : List ℕ) : Type 0 where

@@ -7,12 +7,12 @@ use window::Filled;
 use window::Window;
 ghost use mathlib.Core.Path.{_≡_};
 ghost use mathlib.Core.Logic.{_⊎_};
-ghost use Prim.Native.Nat.{_+_, _-_, _≤_, min};
+ghost use Prim.Native.Nat.{_≤_};
 ghost use lib.ListN.{length, take};
 ghost use Rattle.stages.specs.Fit.{due-of};
 ghost use Rattle.lines.specs.Row.{step-room};
 ghost use Rattle.stages.specs.declared.Wall.the-variants.{Over};
-ghost use Rattle.stream.specs.State.{Starts, Between, made-ready, stepped, finished};
+ghost use Rattle.stream.specs.State.{Starts, Between, made-ready, part-end, stepped, finished};
 
 // How a run ended.
 pub enum Ended {
@@ -66,19 +66,18 @@ impl State {
     // Where the due part ends in the input buffer, or what there is of it.
     pub fn part_end(self) -> usize
         requires { ⌜ self .window .start ≤ self .window .end ⌝ }
-        ensures { λ r. ⌜ r ≡ self .window .start + min (due-of (self .wall)) (self .window .end - self .window .start) ⌝ }
+        ensures { λ r. ⌜ r ≡ part-end self ⌝ }
     {
         let window = self.window;
         window.part_end(self.due())
     }
 
-    // After the step of the due part: the bytes behind it are left.
-    pub fn stepped(self, wall: Wall, text: usize) -> State
-        requires { ⌜ self .window .start ≤ self .window .end ⌝ }
+    // After the step of the due part, which ends at `stop`: the bytes behind it are left.
+    pub fn stepped(self, stop: usize, wall: Wall, text: usize) -> State
+        requires { ⌜ stop ≡ part-end self ⌝ }
         ensures { λ r. ⌜ r ≡ stepped self wall text ⌝ }
     {
         let window = self.window;
-        let stop = self.part_end();
         State {
             wall,
             window: Window {

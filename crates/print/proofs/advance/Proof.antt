@@ -50,7 +50,7 @@ enum-known-went : tie.Need-enum-known-went
 enum-known-went c = search needs
 
 stepped-requires : tie.Need-stepped-requires
-stepped-requires c κs = start (known (taken (c .before .before .before))) .pre .2 .within .ordered
+stepped-requires c κs = known (taken (c .before .before .before)) .before .part-end .ensures
 
 enum-told : tie.Need-enum-told
 enum-told c = search needs

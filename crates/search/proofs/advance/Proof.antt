@@ -56,7 +56,7 @@ step-requires c κs =
 stepped-requires : tie.Need-stepped-requires
 stepped-requires c κs =
     let w = c .before .before .before .before .before .before .before .before .before .before .before in
-    start w .pre .0 .within .ordered
+    w .before .part-end .ensures
 
 same-length : tie.Need-same-length
 same-length c = search needs
