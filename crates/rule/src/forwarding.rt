@@ -25,8 +25,8 @@ fn middle(unit: u64, least: u64, most: u64) -> u64
     least + half * (gap / turn) + less(gap % turn, half)
 }
 
-// P, from own's stamp and the earliest and latest of the neighbours'.
-pub fn forward(unit: u64, step: u64, own: u64, least: u64, most: u64) -> u64
+// P, the stamp that a tile adopts, from own's stamp and the earliest and latest of the neighbours'.
+pub fn adopted(unit: u64, step: u64, own: u64, least: u64, most: u64) -> u64
     requires { ⌜ Forwardable unit step own least most ⌝ }
     ensures { λ r. ⌜ r ≡ closed-P unit step (stamp-of own) (stamp-of least) (stamp-of most) ⌝ }
 {

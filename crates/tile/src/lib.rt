@@ -146,7 +146,7 @@ fn answer(settings: Settings, own: u64, least: u64, most: u64) -> Forwarded
     requires { ⌜ Forwardable (settings .unit) (step-of settings) own least most ⌝ }
     ensures { λ r. ⌜ r ≡ answered settings (stamp-of own) (stamp-of least) (stamp-of most) ⌝ }
 {
-    let p = forwarding::forward(
+    let p = forwarding::adopted(
         settings.unit,
         settings::step(settings.unit, settings.drift),
         own,
