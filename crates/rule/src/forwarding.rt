@@ -11,6 +11,9 @@ ghost use Rattle.rule.specs.Closed.{middle, closed-P, Forwardable};
 // later one.
 pub const SILENT: u64 = 18_446_744_073_709_551_615;
 
+// The latest stamp that an operation accepts, and the latest time of a seam.
+pub const LATEST: u64 = 2_199_023_255_551;
+
 // The stamp that decides, from the earliest to the latest neighbour's.
 fn middle(unit: u64, least: u64, most: u64) -> u64
     requires { ⌜ (0 < unit) × (unit ≤ 62500) × (least ≤ most) × (most ≤ 4398046511104) ⌝ }

@@ -31,7 +31,7 @@ pub enum Forwarded {
 
 impl Stamps {
     // The latest stamp that is accepted.
-    pub const LATEST: i64 = 2_199_023_255_551;
+    pub const LATEST: i64 = forwarding::LATEST as i64;
 }
 
 pub fn forward(settings: Settings, stamps: Stamps) -> Forwarded
