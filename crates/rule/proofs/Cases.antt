@@ -1,11 +1,13 @@
--- 01's starred cases, and the corrections next to zero, computed by the rule as written. Assumes nothing.
+-- The statements of specs/Cases.antt, computed by the rule as written. Assumes nothing.
 use mathlib.Core.Path.{refl}
 use Rattle.settings.specs.Rounding.{up}
-use Rattle.settings.specs.Settings.{step}
-use Rattle.rule.specs.Signed.{larger, smaller}
-use Rattle.rule.specs.Stamp.{earlier, later, earliest, latest}
+use Rattle.settings.specs.Settings.{settings, step, step-of}
+use Rattle.rule.specs.Clock.{reads, first-tick}
+use Rattle.rule.specs.Signed.{larger, smaller, natural}
+use Rattle.rule.specs.Stamp.{earlier, later, earliest, latest, stamp-of, code-of}
 use Rattle.rule.specs.Forward.{larger-at, least-to, D, heard-correction, P, correction}
-use Rattle.rule.specs.Cases.{case, stamps, starred, around-zero, Given, Meets, Each-meets, Starred-met, Around-zero-met}
+use Rattle.rule.specs.Pulse.{tile-P, tile-pulse}
+use Rattle.rule.specs.Cases.{case, stamps, starred, around-zero, Given, Meets, Each-meets, Starred-met, Around-zero-met, Clock-cases, Stamp-limits, Pulse-cases}
 
 pub starred-met : Starred-met
 unfolding Starred-met Each-meets Meets Given starred case stamps P correction heard-correction D least-to larger-at larger smaller earliest latest earlier later step up
@@ -15,3 +17,15 @@ starred-met =
 pub around-zero-met : Around-zero-met
 unfolding Around-zero-met Each-meets Meets Given around-zero case stamps P correction heard-correction D least-to larger-at larger smaller earliest latest earlier later step up
 around-zero-met = ((refl, refl), ((refl, refl), ((refl, refl), tt)))
+
+pub clock-cases : Clock-cases
+unfolding Clock-cases reads first-tick up
+clock-cases = (refl, refl, refl, refl, refl, refl, refl, refl, refl)
+
+pub stamp-limits : Stamp-limits
+unfolding Stamp-limits stamp-of code-of
+stamp-limits = (refl, refl, refl, refl, refl, refl)
+
+pub pulse-cases : Pulse-cases
+unfolding Pulse-cases stamps settings tile-pulse tile-P natural P heard-correction D least-to larger-at larger smaller earliest latest earlier later step-of step first-tick up
+pulse-cases = (refl, refl, refl, refl)

@@ -1,12 +1,15 @@
--- 01's tile cases that are marked with a star, and the corrections next to zero. All have h 12. Assumes nothing.
+-- 01's tile cases that are marked with a star, and the corrections next to zero, all with h 12; then its clock, its limits and
+-- pulses of its printed wall. Each statement is proved in proofs/Cases.antt, under its name in small letters. Assumes nothing.
 use mathlib.Core.Path.{_≡_}
 use mathlib.Core.List.{List, [], _∷_}
 use mathlib.Core.Option.{Option, none, some}
-use Prim.Native.Nat.{ℕ}
+use Prim.Native.Nat.{ℕ, _-_, _^_}
 use lib.IntN.{ℤ, pos, negsuc}
-use Rattle.settings.specs.Settings.{step}
-use Rattle.rule.specs.Stamp.{Stamp, heard, silent, earliest, latest}
+use Rattle.settings.specs.Settings.{settings, step}
+use Rattle.rule.specs.Clock.{reads, first-tick}
+use Rattle.rule.specs.Stamp.{Stamp, heard, silent, earliest, latest, latest-stamp, silence, stamp-of, code-of}
 use Rattle.rule.specs.Forward.{P, correction}
+use Rattle.rule.specs.Pulse.{tile-pulse}
 
 -- a case: the drift limit r, the stamps, and P with the correction where 01 gives one
 pub record Case : Type 0 where
@@ -66,3 +69,36 @@ Starred-met = Each-meets starred
 
 unfoldable pub Around-zero-met : Type 0
 Around-zero-met = Each-meets around-zero
+
+-- a clock of drift 10,000 and phase 0 reads 1111 at tick 1100 and just misses 1110 a tick before; it reads 1511 first at 1497,
+-- and less at 1496. At drift 1 a tick in a million is gained, at drift 0 none.
+unfoldable pub Clock-cases : Type 0
+Clock-cases =
+    (reads 10000 0 1100 ≡ 1111)
+    × (reads 10000 0 1099 ≡ 1109)
+    × (first-tick 10000 0 1511 ≡ 1497)
+    × (reads 10000 0 1497 ≡ 1511)
+    × (reads 10000 0 1496 ≡ 1510)
+    × (reads 1 0 999999 ≡ 999999)
+    × (reads 1 0 1000000 ≡ 1000001)
+    × (reads 0 0 1100 ≡ 1100)
+    × (first-tick 0 0 1511 ≡ 1511)
+
+-- the latest stamp, and the number that stands for silence
+unfoldable pub Stamp-limits : Type 0
+Stamp-limits =
+    (latest-stamp ≡ 2 ^ 41 - 1)
+    × (silence ≡ 2 ^ 64 - 1)
+    × (stamp-of (2 ^ 64 - 1) ≡ silent)
+    × (stamp-of (2 ^ 64 - 2) ≡ heard (2 ^ 64 - 2))
+    × (code-of silent ≡ 2 ^ 64 - 1)
+    × (code-of (heard 0) ≡ 0)
+
+-- columns 0, 2 and 3 of 01's printed wall, where the hold is 400; and with drift 10,000 the tick of 1111 + 400
+unfoldable pub Pulse-cases : Type 0
+Pulse-cases =
+    let wall = settings 6 1 100 10 400 0 12 in
+    (tile-pulse wall 0 0 (heard 1100) (stamps 1100 1100) ≡ 1500)
+    × (tile-pulse wall 0 0 (heard 1100) (heard 1100 ∷ stamps 1100 1180) ≡ 1500)
+    × (tile-pulse wall 0 0 (heard 1180) (stamps 1100 1100) ≡ 1536)
+    × (tile-pulse (settings 6 1 100 10 400 10000 16) 10000 0 (heard 1111) (stamps 1111 1111) ≡ 1497)
