@@ -7,7 +7,7 @@ use Rattle.rule.specs.Signed.{larger, smaller, natural}
 use Rattle.rule.specs.Stamp.{earlier, later, earliest, latest, stamp-of, code-of}
 use Rattle.rule.specs.Forward.{larger-at, least-to, D, heard-correction, P, correction}
 use Rattle.rule.specs.Pulse.{tile-P, tile-pulse}
-use Rattle.rule.specs.Cases.{case, stamps, starred, around-zero, Given, Meets, Each-meets, Starred-met, Around-zero-met, Clock-cases, Stamp-limits, Pulse-cases}
+use Rattle.rule.specs.Cases.{case, stamps, starred, around-zero, with-silence, Given, Meets, Each-meets, Starred-met, Around-zero-met, Silence-met, Clock-cases, Stamp-limits, Pulse-cases}
 
 pub starred-met : Starred-met
 unfolding Starred-met Each-meets Meets Given starred case stamps P correction heard-correction D least-to larger-at larger smaller earliest latest earlier later step up
@@ -17,6 +17,10 @@ starred-met =
 pub around-zero-met : Around-zero-met
 unfolding Around-zero-met Each-meets Meets Given around-zero case stamps P correction heard-correction D least-to larger-at larger smaller earliest latest earlier later step up
 around-zero-met = ((refl, refl), ((refl, refl), ((refl, refl), tt)))
+
+pub silence-met : Silence-met
+unfolding Silence-met Each-meets Meets Given with-silence case P correction heard-correction D least-to larger-at larger smaller earliest latest earlier later step up
+silence-met = (((refl, refl), ((refl, refl), ((refl, tt), tt))), refl)
 
 pub clock-cases : Clock-cases
 unfolding Clock-cases reads first-tick up
@@ -28,4 +32,4 @@ stamp-limits = (refl, refl, refl, refl, refl, refl)
 
 pub pulse-cases : Pulse-cases
 unfolding Pulse-cases stamps settings tile-pulse tile-P natural P heard-correction D least-to larger-at larger smaller earliest latest earlier later step-of step first-tick up
-pulse-cases = (refl, refl, refl, refl)
+pulse-cases = (refl, refl, refl, refl, refl, refl)
