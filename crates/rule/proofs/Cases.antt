@@ -1,7 +1,7 @@
 -- The statements of specs/Cases.antt, computed by the rule as written. Assumes nothing.
 use mathlib.Core.Path.{refl}
 use Rattle.settings.specs.Rounding.{up}
-use Rattle.settings.specs.Settings.{settings, step, step-of}
+use Rattle.settings.proofs.Cases.{settings-computed}
 use Rattle.rule.specs.Clock.{reads, first-tick}
 use Rattle.rule.specs.Signed.{larger, smaller, natural}
 use Rattle.rule.specs.Stamp.{earlier, later, earliest, latest, stamp-of, code-of}
@@ -9,17 +9,22 @@ use Rattle.rule.specs.Forward.{larger-at, least-to, D, heard-correction,
 use Rattle.rule.specs.Pulse.{tile-P, tile-pulse}
 use Rattle.rule.specs.Cases.{case, stamps, starred, around-zero, with-silence, Given, Meets, Each-meets, Starred-met, Around-zero-met, Silence-met, Clock-cases, Stamp-limits, Pulse-cases}
 
+-- what P and the correction are computed by
+unfoldable pub rule-computed : Unit {0}
+unfolding settings-computed P correction heard-correction D least-to larger-at larger smaller earliest latest earlier later
+rule-computed = tt
+
 pub starred-met : Starred-met
-unfolding Starred-met Each-meets Meets Given starred case stamps P correction heard-correction D least-to larger-at larger smaller earliest latest earlier later step up
+unfolding rule-computed Starred-met Each-meets Meets Given starred case stamps
 starred-met =
     ((refl, tt), ((refl, tt), ((refl, tt), ((refl, refl), ((refl, tt), ((refl, refl), ((refl, tt), ((refl, tt), ((refl, tt), ((refl, tt), ((refl, tt), ((refl, tt), tt))))))))))))
 
 pub around-zero-met : Around-zero-met
-unfolding Around-zero-met Each-meets Meets Given around-zero case stamps P correction heard-correction D least-to larger-at larger smaller earliest latest earlier later step up
+unfolding rule-computed Around-zero-met Each-meets Meets Given around-zero case stamps
 around-zero-met = ((refl, refl), ((refl, refl), ((refl, refl), tt)))
 
 pub silence-met : Silence-met
-unfolding Silence-met Each-meets Meets Given with-silence case P correction heard-correction D least-to larger-at larger smaller earliest latest earlier later step up
+unfolding rule-computed Silence-met Each-meets Meets Given with-silence case
 silence-met = (((refl, refl), ((refl, refl), ((refl, tt), tt))), refl)
 
 pub clock-cases : Clock-cases
@@ -31,5 +36,5 @@ unfolding Stamp-limits stamp-of code-of
 stamp-limits = (refl, refl, refl, refl, refl, refl)
 
 pub pulse-cases : Pulse-cases
-unfolding Pulse-cases stamps settings tile-pulse tile-P natural P heard-correction D least-to larger-at larger smaller earliest latest earlier later step-of step first-tick up
+unfolding rule-computed Pulse-cases tile-pulse tile-P natural first-tick stamps
 pulse-cases = (refl, refl, refl, refl, refl, refl)

@@ -3,28 +3,33 @@ use mathlib.Core.Path.{refl}
 use Rattle.settings.specs.Refusal.{first, outside}
 use Rattle.settings.specs.Rounding.{up}
 use Rattle.settings.specs.Settings.{settings, drift-cost, step, step-of, settings-tests, settings-refusal, checked}
-use Rattle.settings.specs.Cases.{_is_, Settings-cases, Range-ends, Joint-limits, Lowest-first, Cost-cases, Step-cases}
+use Rattle.settings.specs.Cases.{_is_, Settings-cases, Range-ends, Joint-limits, Settings-order, Cost-cases, Step-cases}
+
+-- what a number, c and J are computed by
+unfoldable pub settings-computed : Unit {0}
+unfolding settings settings-refusal settings-tests first outside drift-cost step-of step up
+settings-computed = tt
 
 pub settings-cases : Settings-cases
-unfolding Settings-cases _is_ settings checked settings-refusal settings-tests first outside drift-cost up
+unfolding settings-computed checked _is_ Settings-cases
 settings-cases = (refl, refl, refl, refl, refl, refl)
 
 pub range-ends : Range-ends
-unfolding Range-ends _is_ settings settings-refusal settings-tests first outside drift-cost up
+unfolding settings-computed _is_ Range-ends
 range-ends = (refl, refl, refl, refl, refl, refl, refl, refl, refl, refl, refl, refl, refl, refl, refl, refl, refl)
 
 pub joint-limits : Joint-limits
-unfolding Joint-limits _is_ settings settings-refusal settings-tests first outside drift-cost up
+unfolding settings-computed _is_ Joint-limits
 joint-limits = (refl, refl, refl, refl, refl, refl, refl, refl)
 
-pub lowest-first : Lowest-first
-unfolding Lowest-first _is_ settings settings-refusal settings-tests first outside drift-cost up
-lowest-first = (refl, refl, refl, refl, refl, refl, refl, refl, refl, refl)
+pub settings-order : Settings-order
+unfolding settings-computed _is_ Settings-order
+settings-order = (refl, refl, refl, refl, refl, refl, refl, refl, refl, refl)
 
 pub cost-cases : Cost-cases
-unfolding Cost-cases drift-cost up
+unfolding settings-computed Cost-cases
 cost-cases = (refl, refl, refl, refl, refl)
 
 pub step-cases : Step-cases
-unfolding Step-cases settings step-of step up
+unfolding settings-computed Step-cases
 step-cases = (refl, refl, refl, refl, refl, refl)

@@ -57,8 +57,8 @@ Joint-limits =
     × settings 6 1 1 0 999999 0 62500 is 9
 
 -- of all numbers that apply the lowest is given: here all nine apply, and then one setting after the other is mended
-unfoldable pub Lowest-first : Type 0
-Lowest-first =
+unfoldable pub Settings-order : Type 0
+Settings-order =
     settings 5 0 0 70000 0 10001 62501 is 1
     × settings 6 0 0 70000 0 10001 62501 is 2
     × settings 6 1 0 70000 0 10001 62501 is 3
