@@ -124,7 +124,7 @@ Answer-cases =
 unfoldable pub End-cases : Type 0
 End-cases =
     let most = 2 ^ 41 - 1 in
-    (forwarded wall (stamps 2 (heard most) (heard 0) (heard 0) (heard 0)) ≡ Corrected (pos 36) (pos 2199023255515))
-    × (forwarded wall (stamps 2 (heard 0) (heard most) (heard most) (heard 0)) ≡ Corrected (pos 2199023255515) (negsuc 2199023255514))
-    × (forwarded wall (stamps 2 (silent 0) (heard most) (heard most) (heard 0)) ≡ Uncorrected (pos 2199023255587))
-    × (forwarded wall (stamps 2 (heard 0) (heard 0) (heard 0) (heard 0)) ≡ Corrected (pos 0) (pos 0))
+    (forwarded wall (stamps 3 (heard most) (heard 0) (heard 0) (heard 0)) ≡ Corrected (pos 36) (pos 2199023255515))
+    × (forwarded wall (stamps 3 (heard 0) (heard most) (heard most) (heard most)) ≡ Corrected (pos 2199023255515) (negsuc 2199023255514))
+    × (forwarded wall (stamps 3 (silent 0) (heard most) (heard most) (heard most)) ≡ Uncorrected (pos 2199023255587))
+    × (forwarded wall (stamps 3 (heard 0) (heard 0) (heard 0) (heard 0)) ≡ Corrected (pos 0) (pos 0))
