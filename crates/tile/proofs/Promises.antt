@@ -9,7 +9,6 @@ use Rattle.rule.specs.Signed.{natural}
 use Rattle.rule.specs.Forward.{P, correction}
 use Rattle.tile.specs.Tile.{silent-at, reading-at, stamp-from, stamp-at, own-stamp, neighbour-places, neighbour-stamps, tile-refusal, answered, number-of, correction-of}
 use Rattle.tile.specs.Cases.{reading-in, marked-in, stamps, heard as at}
-use Rattle.rule.specs.Pulse.{tile-P}
 use Rattle.rule.specs.Promises.{Tile, P-exact}
 use Rattle.tile.specs.Promises.{Tile-answered, Past-count, P-range, correction-most, Correction-range, Correction-ends}
 use Rattle.settings.specs.declared.Settings.{Settings}
