@@ -1,4 +1,5 @@
 pub mod Refusal
 pub mod Rounding
 pub mod Settings
+pub mod Cases
 pub mod Promises

@@ -1,4 +1,4 @@
--- `forwarding::forward` meets its contract: each return is a case of the closed form. Assumes nothing.
+-- `forwarding::adopted` meets its contract: each return is a case of the closed form. Assumes nothing.
 use mathlib.Core.Path.{_≡_, sym, _∙_}
 use Prim.Native.Nat.{ℕ, _≤_}
 use native.Mathlib.Omega.{arith}
@@ -8,8 +8,8 @@ use Rattle.rule.specs.Closed.{heard-P, closed-P}
 use Rattle.rule.proofs.Laws.Coded.{coded-own-silent, coded-neighbour-silent, coded-heard}
 use Rattle.rule.proofs.Laws.Heard.{waits, decides, hurries}
 use Rattle.rule.proofs.Laws.Middle.{middle-within}
-use Rattle.rule.proofs.forwarding.forward.Statement.{statement}
-use Rattle.rule.proofs.forwarding.forward.Tie as tie
+use Rattle.rule.proofs.forwarding.adopted.Statement.{statement}
+use Rattle.rule.proofs.forwarding.adopted.Tie as tie
 
 -- a stamp of at most 2^42 is heard
 small : {v : ℕ} → v ≤ 4398046511104 → v ≡ silence → ⊥
@@ -122,8 +122,8 @@ returns-5 c =
     c .smaller .ensures
     ∙ sym (by-heard (m .before) ∙ hurries (a .unit) (a .step) (a .own) (a .least) (a .most) (omega (arith, m .middle .ensures, c .before .if4 .left)))
 
-pub forward-spec : {M : Type 1} → statement M
-forward-spec =
+pub adopted-spec : {M : Type 1} → statement M
+adopted-spec =
     tie.close
     (tie.spec
     mul-result
