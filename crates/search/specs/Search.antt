@@ -17,6 +17,6 @@ search-step asked x m ts bs =
     record { wall = t .wall; keeps = t .largest; row = step-of x ts bs .row; text = t .text }
 
 -- what is told of a step on a part and the wall's row, which the next one replaces, unless the wall is over
-pub record Steps (asked : List ℕ) (x : Wall) (m : ℕ) (part times output : List ℕ) (at : ℕ) (r : Told) (times-after output-after : List ℕ) : Type 0 where
+pub record Tells (asked : List ℕ) (x : Wall) (m : ℕ) (part times output : List ℕ) (at : ℕ) (r : Told) (times-after output-after : List ℕ) : Type 0 where
   pub said : Said (telling asked x m times part) r output at output-after
   pub row : (r .wall ≡ Over → ⊥) → times-after ≡ step-of x times part .row

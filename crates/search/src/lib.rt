@@ -17,7 +17,7 @@ ghost use Rattle.stages.specs.Fit.{width-of};
 ghost use Rattle.lines.specs.Row.{step-room};
 ghost use Rattle.file.specs.Stands.{Stands};
 ghost use Rattle.stream.specs.State.{Between, Advanced, Ends, Comes-to};
-ghost use Rattle.search.specs.Search.{search-step, Steps};
+ghost use Rattle.search.specs.Search.{search-step, Tells};
 
 // A run between two steps, and the largest reach so far.
 struct Search {
@@ -50,7 +50,7 @@ pub fn run(from: i32, to: i32, asked: &[u64]) -> Found
     )
 }
 
-// Steps until nothing is due.
+// Tells until nothing is due.
 fn run_in(
     from: i32,
     to: i32,
@@ -134,7 +134,7 @@ fn step(
 ) -> Told
     requires { ⌜ Stands wall × (at + step-room ≤ length (now output)) ⌝ }
     requires { ⌜ (length (now row) ≡ width-of wall) × (length (now next) ≡ width-of wall) × (length (now row) ≤ 256) ⌝ }
-    ensures { λ r. ⌜ Steps (take 16 (now (asked .entry))) wall largest (now (part .entry)) (now (row .entry)) (now (output .entry)) at r (now (row .exit)) (now (output .exit)) ⌝ }
+    ensures { λ r. ⌜ Tells (take 16 (now (asked .entry))) wall largest (now (part .entry)) (now (row .entry)) (now (output .entry)) at r (now (row .exit)) (now (output .exit)) ⌝ }
 {
     match steps::take(wall, part, row, next) {
         Taken::Took(took) => {

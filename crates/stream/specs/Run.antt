@@ -25,23 +25,23 @@ brings step x k ts bs = step x k (take (width-of x) ts) (take (due-of x) bs)
 
 -- What a run comes to: a wall, what it keeps, and the wall's row; `held` is read and not yet taken, `delivered` is all that was read, in
 -- whatever pieces, and `text` is that of the steps so far.
-pub data Reached {K : Type 0} (step : Step K) (first : K) : (ended : Bool) → Wall → K → (times held delivered text : List ℕ) → Type 0 where
-  begins : {times : List ℕ} → Reached step first false New first times [] [] []
+pub data Turns {K : Type 0} (step : Step K) (first : K) : (ended : Bool) → Wall → K → (times held delivered text : List ℕ) → Type 0 where
+  begins : {times : List ℕ} → Turns step first false New first times [] [] []
   -- what is read comes behind what is held
-  reads : {x : Wall} {k : K} {times held delivered text : List ℕ} → (piece : List ℕ) → Reached step first false x k times held delivered text →
-      Reached step first false x k times (held ++ piece) (delivered ++ piece) text
+  reads : {x : Wall} {k : K} {times held delivered text : List ℕ} → (piece : List ℕ) → Turns step first false x k times held delivered text →
+      Turns step first false x k times (held ++ piece) (delivered ++ piece) text
   -- the input has ended: nothing more is read
-  ends : {x : Wall} {k : K} {times held delivered text : List ℕ} → Reached step first false x k times held delivered text →
-      Reached step first true x k times held delivered text
+  ends : {x : Wall} {k : K} {times held delivered text : List ℕ} → Turns step first false x k times held delivered text →
+      Turns step first true x k times held delivered text
   -- a step is given less than is due only where the input has ended; the row that it leaves stands in the buffer, unless the wall is over
   steps : {ended : Bool} {x : Wall} {k : K} {times held delivered text : List ℕ} → (after : List ℕ) → (length held < due-of x → ended ≡ true) →
       ((brings step x k times held .wall ≡ Over → ⊥) → take (width-of x) after ≡ brings step x k times held .row) →
-      Reached step first ended x k times held delivered text →
-      Reached step first ended (brings step x k times held .wall) (brings step x k times held .keeps) after (drop (due-of x) held) delivered
+      Turns step first ended x k times held delivered text →
+      Turns step first ended (brings step x k times held .wall) (brings step x k times held .keeps) after (drop (due-of x) held) delivered
       (text ++ brings step x k times held .text)
 
 -- a run that stands so, with text not yet handed over: what was delivered to it, and what it has handed over
 pub record Ran {K : Type 0} (step : Step K) (first : K) (ended : Bool) (x : Wall) (k : K) (times held pending : List ℕ) : Type 0 where
   pub delivered : List ℕ
   pub handed : List ℕ
-  pub reached : Reached step first ended x k times held delivered (handed ++ pending)
+  pub turns : Turns step first ended x k times held delivered (handed ++ pending)

@@ -8,7 +8,7 @@ use lib.ListN.{length, take}
 use Rattle.lines.specs.Row.{step-room}
 use Rattle.lines.specs.Wrote.{Wrote}
 use Rattle.stages.specs.Fit.{due-of, width-of}
-use Rattle.window.specs.Window.{Within, bytes-in, lacking, Filled-up}
+use Rattle.window.specs.Window.{In-buffer, bytes-in, lacking, Filled-up}
 use Rattle.file.specs.Stands.{Stands}
 use Rattle.stages.specs.declared.Wall.{Wall}
 use Rattle.stages.specs.declared.Wall.the-variants.{New, Over}
@@ -23,7 +23,7 @@ use Rattle.stream.specs.declared.Turn.the-variants.{On, Stop}
 -- the wall is one that steps leave, and the window and the text lie within buffers of so many bytes
 pub record Between (s : State) (input output : ℕ) : Type 0 where
   pub stands : Stands (s .wall)
-  pub within : Within (s .window) input
+  pub within : In-buffer (s .window) input
   pub text : s .text ≤ output
 
 -- before the first step nothing is read and nothing is to be handed over

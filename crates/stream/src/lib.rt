@@ -3,7 +3,7 @@
 // No contract can say which bytes a system call moves. They come in by `window::take_in` and go out by `hand_over`,
 // and nowhere else; these two are the edge of the proof.
 use stages::Wall;
-use window::Filled;
+use window::Reading;
 use window::Window;
 ghost use mathlib.Core.Path.{_≡_};
 ghost use mathlib.Core.Logic.{_⊎_};
@@ -151,7 +151,7 @@ pub fn ready(from: i32, to: i32, state: State, input: &mut [u8], output: &[u8]) 
         return Turn::Stop(Ended::WriteFailed);
     }
     match window::fill(from, window, due, input) {
-        Filled::Ready(next) => {
+        Reading::Ready(next) => {
             let wall = state.wall;
             Turn::On(State {
                 wall,
@@ -159,6 +159,6 @@ pub fn ready(from: i32, to: i32, state: State, input: &mut [u8], output: &[u8]) 
                 text: left,
             })
         }
-        Filled::Failed => Turn::Stop(Ended::ReadFailed),
+        Reading::Failed => Turn::Stop(Ended::ReadFailed),
     }
 }

@@ -29,10 +29,10 @@ use Rattle.stream.proofs.Laws.Held.{row-kept}
 use Rattle.stream.specs.State.{stepped, Advanced}
 use Rattle.stream.specs.declared.State.{State}
 use Rattle.stream.proofs.Laws.State.{part-taken}
-use Rattle.window.specs.Window.{Within, bytes-in}
-use Rattle.search.specs.Search.{search-step, Steps}
+use Rattle.window.specs.Window.{In-buffer, bytes-in}
+use Rattle.search.specs.Search.{search-step, Tells}
 use Rattle.range.proofs.Laws.File.{from, part-told, one-step}
-use Rattle.file.proofs.Laws.Steps.{part-enough}
+use Rattle.file.proofs.Laws.Tells.{part-enough}
 
 -- a wall that stands takes its step, with rows of its width
 pub never-unfit : {x : Wall} {part row held next : List ℕ} {answer : Taken} → Stands x → length row ≡ width-of x → length held ≡ width-of x →
@@ -70,7 +70,7 @@ module _ (asked : List ℕ) where
   -- what was said, and the next row in the row's place
   pub step-told : (x : Wall) (m : ℕ) (ts bs held next after : List ℕ) {r : Told} {output output-after : List ℕ} {at : ℕ} → length ts ≡ width-of x → length held ≡ width-of x →
       next ≡ next-row x ts bs held → after ≡ next → Said (telling asked x m ts bs) r output at output-after →
-      Steps asked x m bs ts output at r after output-after
+      Tells asked x m bs ts output at r after output-after
   step-told x m ts bs held next after n l written copied said =
       record {
         said = said;
@@ -79,10 +79,10 @@ module _ (asked : List ℕ) where
       }
 
   -- the step of the due part
-  module _ (s : State) (m : ℕ) (input times output : List ℕ) (within : Within (s .window) (length input)) (stop width : ℕ)
+  module _ (s : State) (m : ℕ) (input times output : List ℕ) (within : In-buffer (s .window) (length input)) (stop width : ℕ)
       (stop-is : stop ≡ s .window .start + min (due-of (s .wall)) (s .window .end - s .window .start)) (width-is : width ≡ width-of (s .wall)) where
     pub advanced : (t : Told) (r : State) (row-after output-after : List ℕ) → length row-after ≡ width → r ≡ stepped s (t .wall) (t .end) →
-        Steps asked (s .wall) m (take (stop - s .window .start) (drop (s .window .start) input)) (take width times) output (s .text) t row-after output-after →
+        Tells asked (s .wall) m (take (stop - s .window .start) (drop (s .window .start) input)) (take width times) output (s .text) t row-after output-after →
         Advanced (search-step asked) s m input times output r (t .largest) (row-after ++ drop width times) output-after
     unfolding search-step stepped
     advanced t r row-after output-after long made told =

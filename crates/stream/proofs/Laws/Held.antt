@@ -15,7 +15,7 @@ use Rattle.steps.specs.Step.{stepped, away, settings-step, start-step, after-ro
 use Rattle.stages.specs.declared.Place.{Place}
 use Rattle.stages.specs.declared.Wall.{Wall}
 use Rattle.stages.specs.declared.Wall.the-variants.{New, Start, Row, End, Over}
-use Rattle.window.specs.Window.{Within, bytes-in, lacking}
+use Rattle.window.specs.Window.{In-buffer, bytes-in, lacking}
 use Rattle.window.specs.declared.Window.{Window}
 
 -- a step keeps the wall's width, or the wall is over
@@ -84,11 +84,11 @@ held-part k bs cs false e short =
     (take-append-le k bs cs enough, drop-append-le k bs cs enough)
 
 -- where nothing is lacking, the due part is held, or the input has ended
-size-of : (w : Window) (xs : List ℕ) → Within w (length xs) → length (bytes-in w xs) ≡ w .end - w .start
+size-of : (w : Window) (xs : List ℕ) → In-buffer w (length xs) → length (bytes-in w xs) ≡ w .end - w .start
 unfolding bytes-in
 size-of w xs i = simp (length-take, length-drop) (omega (arith, i .ordered, i .inside))
 
-pub enough-held : (w : Window) (due : ℕ) (xs : List ℕ) (b : Bool) → w .ended ≡ b → Within w (length xs) → lacking w due ≡ false →
+pub enough-held : (w : Window) (due : ℕ) (xs : List ℕ) (b : Bool) → w .ended ≡ b → In-buffer w (length xs) → lacking w due ≡ false →
     length (bytes-in w xs) < due → w .ended ≡ true
 unfolding lacking
 enough-held w due xs true f i e l = f

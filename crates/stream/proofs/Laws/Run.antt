@@ -11,7 +11,7 @@ use Rattle.stages.specs.declared.Wall.the-variants.{Over}
 use Rattle.file.specs.Stands.{Stands, steps-left}
 use Rattle.file.proofs.Laws.Stands.{Ahead}
 use Rattle.window.specs.Window.{bytes-in, lacking}
-use Rattle.stream.specs.Run.{Brought, Step, brings, Reached, begins, reads, ends, steps, Ran}
+use Rattle.stream.specs.Run.{Brought, Step, brings, Turns, begins, reads, ends, steps, Ran}
 use Rattle.stream.specs.State.{Starts, to-hand, Made-ready, stepped, Advanced, Standing, finished, Ends}
 use Rattle.stream.specs.Promises.{Turn-right}
 use Rattle.stream.specs.declared.State.{State}
@@ -29,14 +29,14 @@ module _ {K : Type 0} (step : Step K) (first : K) where
       let clear : take (s .text) output ≡ [] = rw (b .text) refl in
       record {
         between = starts-between s (length input) (length output) b;
-        ran = record { delivered = []; handed = []; reached = rw (b .flag, b .wall, none, clear) begins };
+        ran = record { delivered = []; handed = []; turns = rw (b .flag, b .wall, none, clear) begins };
       }
 
   -- text is handed over, or kept
   handed-on : {ended : Bool} {x : Wall} {k : K} {times held : List ℕ} (output : List ℕ) (t u : ℕ) (b : Bool) → u ≡ cond b 0 t →
       Ran step first ended x k times held (take t output) → Ran step first ended x k times held (take u output)
   handed-on output t u true e r =
-      record { delivered = r .delivered; handed = r .handed ++ take t output; reached = rw (e, append-nil (r .handed ++ take t output)) (r .reached) }
+      record { delivered = r .delivered; handed = r .handed ++ take t output; turns = rw (e, append-nil (r .handed ++ take t output)) (r .turns) }
   handed-on output t u false e r = rw e r
 
   -- bytes are read, and the input may have ended
@@ -54,13 +54,13 @@ module _ {K : Type 0} (step : Step K) (first : K) where
         record {
           delivered = r .delivered ++ drop (s .window .end - s .window .start) (bytes-in (m .window) after);
           handed = r .handed;
-          reached = rw more at (reads (drop (s .window .end - s .window .start) (bytes-in (m .window) after)) (r .reached));
+          turns = rw more at (reads (drop (s .window .end - s .window .start) (bytes-in (m .window) after)) (r .turns));
         }
     read-on false true p q r =
         record {
           delivered = r .delivered ++ drop (s .window .end - s .window .start) (bytes-in (m .window) after);
           handed = r .handed;
-          reached = ends (rw more at (reads (drop (s .window .end - s .window .start) (bytes-in (m .window) after)) (r .reached)));
+          turns = ends (rw more at (reads (drop (s .window .end - s .window .start) (bytes-in (m .window) after)) (r .turns)));
         }
 
   pub made-standing : (s m : State) (k : K) (input times output after : List ℕ) → Standing step first s k input times output →
@@ -113,7 +113,7 @@ module _ {K : Type 0} (step : Step K) (first : K) where
               record {
                 delivered = i .ran .delivered;
                 handed = h;
-                reached = rw (rest, text, flag, wall-is, went .keeps) (steps times-after short (went .row) (i .ran .reached));
+                turns = rw (rest, text, flag, wall-is, went .keeps) (steps times-after short (went .row) (i .ran .turns));
               };
         }
 

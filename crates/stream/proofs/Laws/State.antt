@@ -11,13 +11,13 @@ use lib.Seq.{take-take, take-all, take-add, drop-at, drop-drop, length-take-le}
 use Rattle.lines.specs.Wrote.{Wrote}
 use Rattle.stages.specs.Fit.{due-of}
 use Rattle.lines.specs.Row.{step-room}
-use Rattle.window.specs.Window.{Within, bytes-in, lacking, filled-up}
+use Rattle.window.specs.Window.{In-buffer, bytes-in, lacking, filled-up}
 use Rattle.file.specs.Stands.{Stands}
 use Rattle.stream.specs.State.{Between, Starts, to-hand, Made-ready, made-ready}
 use Rattle.stream.specs.declared.State.{State}
 use Rattle.window.specs.declared.Window.{Window}
-use Rattle.window.specs.declared.Filled.{Filled}
-use Rattle.window.specs.declared.Filled.the-variants.{Ready}
+use Rattle.window.specs.declared.Reading.{Reading}
+use Rattle.window.specs.declared.Reading.the-variants.{Ready}
 use Rattle.stream.specs.declared.Ended.{Ended}
 use Rattle.stream.specs.declared.Ended.the-variants.{Done, ReadFailed, WriteFailed}
 use Rattle.stream.specs.declared.Turn.{Turn}
@@ -59,7 +59,7 @@ module _ (s : State) (before : List ℕ) (n due : ℕ) (due-is : due ≡ due-of 
   hand-full e i = rw (same-lack e, lt-ltb n (s .text + step-room) i)
 
   -- handed over, and then filled
-  pub filled-next : (f : Filled) (w : Window) (text : ℕ) (after : List ℕ) → f ≡ Ready w → text ≡ 0 → to-hand s n ≡ true → step-room ≤ n →
+  pub filled-next : (f : Reading) (w : Window) (text : ℕ) (after : List ℕ) → f ≡ Ready w → text ≡ 0 → to-hand s n ≡ true → step-room ≤ n →
       (lacking (s .window) due ≡ false → (f ≡ Ready (s .window)) × (after ≡ before)) →
       filled-up (s .window) due before f after →
       made-ready s before n (On (record { wall = s .wall; window = w; text = text })) after
@@ -107,7 +107,7 @@ drop-both a b xs false e i =
     let split : take b xs ≡ take a xs ++ take (b - a) (drop a xs) = rw sum at (take-add a (b - a) xs) in
     rw (less, split) (drop-at (take a xs) (take (b - a) (drop a xs)) a (length-take-le a xs (omega arith)))
 
-module _ (w : Window) (due : ℕ) (input : List ℕ) (i : Within w (length input)) where
+module _ (w : Window) (due : ℕ) (input : List ℕ) (i : In-buffer w (length input)) where
   abbrev size : ℕ
   size = w .end - w .start
 
@@ -130,7 +130,7 @@ module _ (w : Window) (due : ℕ) (input : List ℕ) (i : Within w (length input
       let count : w .end - stop ≡ size - min due size = omega (arith, i .ordered) in
       rw (count, sym (drop-drop (min due size) (w .start) input)) (sym (drop-both due size (drop (w .start) input) (ltb size due) refl long))
 
-  pub left-within : Within left (length input)
+  pub left-within : In-buffer left (length input)
   left-within = record { ordered = omega (arith, i .ordered); inside = i .inside }
 
 -- text that is written lies within the buffer

@@ -10,7 +10,7 @@ use Rattle.stages.specs.Fit.{due-of, width-of}
 use Rattle.stages.specs.declared.Wall.{Wall}
 use Rattle.stages.specs.declared.Wall.the-variants.{New, Over}
 use Rattle.file.specs.Stands.{Stands}
-use Rattle.stream.specs.Run.{Step, brings, Reached, begins, reads, ends, steps}
+use Rattle.stream.specs.Run.{Step, brings, Turns, begins, reads, ends, steps}
 use Rattle.stream.specs.State.{Ends}
 use Rattle.stream.specs.Promises.{Run-right}
 use Rattle.stream.proofs.Laws.Held.{held-part}
@@ -23,14 +23,14 @@ module _ {K : Type 0} (step : Step K) (first : K) (from : Wall → K → (row re
     from x k (take (width-of x) ts) bs
     ≡ brings step x k ts bs .text
     ++ from (brings step x k ts bs .wall) (brings step x k ts bs .keeps) (take (width-of (brings step x k ts bs .wall)) us) (drop (due-of x) bs)) where
-  reached-stands : {ended : Bool} {x : Wall} {k : K} {times held delivered text : List ℕ} → Reached step first ended x k times held delivered text → Stands x
+  reached-stands : {ended : Bool} {x : Wall} {k : K} {times held delivered text : List ℕ} → Turns step first ended x k times held delivered text → Stands x
   unfolding Stands
   reached-stands begins = tt
   reached-stands (reads piece r) = reached-stands r
   reached-stands (ends r) = reached-stands r
   reached-stands (steps {x = x} {k} after short row r) = stands x k _ _ (reached-stands r)
 
-  told : {ended : Bool} {x : Wall} {k : K} {times held delivered text : List ℕ} → Reached step first ended x k times held delivered text →
+  told : {ended : Bool} {x : Wall} {k : K} {times held delivered text : List ℕ} → Turns step first ended x k times held delivered text →
       (rest : List ℕ) → (ended ≡ true → rest ≡ []) → from New first [] (delivered ++ rest) ≡ text ++ from x k (take (width-of x) times) (held ++ rest)
   unfolding width-of
   told begins rest none = refl
@@ -56,10 +56,10 @@ module _ {K : Type 0} (step : Step K) (first : K) (from : Wall → K → (row re
       let s = r .state in (
         λ done.
             let at = e .done done in
-            let all = told (e .ran .reached) [] (λ _. refl) in
+            let all = told (e .ran .turns) [] (λ _. refl) in
             let clear : take (s .text) output ≡ [] = rw (at .1) refl in
             sym (rw (clear, at .0, over, append-nil, append-nil, append-nil) at all),
         λ rest none.
-            let all = told (e .ran .reached) rest none in
+            let all = told (e .ran .turns) rest none in
             rw (all, append-assoc) (take-at h _ (length h) refl),
       )

@@ -6,14 +6,14 @@ use Prim.Native.Nat.{_-_, _≤_, _<_}
 use native.Mathlib.Omega.{arith}
 use borrow.Author.Needs.{needs}
 use lib.ListN.{length, take}
-use Rattle.window.specs.Window.{Within, filled-up}
+use Rattle.window.specs.Window.{In-buffer, filled-up}
 use Rattle.window.proofs.Laws.Window.{ready-on, to-read, lacking-some, reads-less, same-front, stand-first}
 use Rattle.window.proofs.read_part.Statement.{statement}
 use Rattle.window.proofs.read_part.Tie as tie
 
 abbrev Inv-loop : tie.InvT-loop
 Inv-loop from due input₀ window₀ input window =
-    Within window (length input) × (length input ≡ length input₀) × (window .start ≡ window₀ .start) × (window₀ .end ≤ window .end) × (take (window₀ .end) input ≡ take (window₀ .end) input₀)
+    In-buffer window (length input) × (length input ≡ length input₀) × (window .start ≡ window₀ .start) × (window₀ .end ≤ window .end) × (take (window₀ .end) input ≡ take (window₀ .end) input₀)
 
 abbrev μ-loop : tie.MeasureT-loop
 μ-loop from due input₀ window₀ input window = to-read due window
