@@ -1,3 +1,4 @@
 pub mod Call
 pub mod Refusal
+-- the code's own
 pub mod Together

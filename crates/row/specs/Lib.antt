@@ -1,2 +1,3 @@
 pub mod Row
+-- the code's own
 pub mod Progress

@@ -7,7 +7,7 @@ use lib.Dec.{eqb}
 use lib.ListN.{length, getD}
 use Rattle.settings.specs.Settings.{settings-refusal}
 use Rattle.settings.specs.declared.Settings.{Settings}
-use Rattle.columns.specs.Columns.{neighbours, is-predecessor, Within, link}
+use Rattle.columns.specs.Columns.{neighbours, is-predecessor, Hops-within, link}
 use Rattle.admission.specs.Call.{Call}
 use Rattle.columns.specs.Marks.{marked}
 use Rattle.runs.specs.Run.{taken, rows, call-at, row-at}
@@ -54,7 +54,7 @@ widest-gap w ts = gap-below w w ts
 pub record Reach (s : Settings) (ts : List ℕ) (f k : ℕ) (rs qs : List (List ℕ)) : Type 0 where
   pub before : (l c : ℕ) → l ≤ f → c < s .width → getD (row-at ts rs l) c 0 ≡ getD (row-at ts qs l) c 0
   pub far :
-      (l c : ℕ) → f < l → l ≤ length rs → c < s .width → (Within (s .width) (l - f) k c → ⊥) →
+      (l c : ℕ) → f < l → l ≤ length rs → c < s .width → (Hops-within (s .width) (l - f) k c → ⊥) →
       getD (row-at ts rs l) c 0 ≡ getD (row-at ts qs l) c 0
   pub near :
       (l c : ℕ) → f < l → l ≤ length rs → c < s .width →

@@ -10,7 +10,7 @@ use native.Mathlib.Omega.{arith}
 use borrow.Author.Tests.{eq-eqb, ne-eqb}
 use Rattle.settings.specs.declared.Settings.{Settings}
 use Rattle.settings.proofs.Laws.Cases.{by-equal}
-use Rattle.columns.specs.Columns.{are-neighbours, columns-from, neighbours, is-predecessor, predecessors, Way, stay, hop, Within, link}
+use Rattle.columns.specs.Columns.{are-neighbours, columns-from, neighbours, is-predecessor, predecessors, Way, stay, hop, Hops-within, link}
 use Rattle.admission.specs.Call.{Call}
 use Rattle.columns.specs.Marks.{marked, faulty-among}
 use Rattle.pulse.specs.Pulse.{arrival, stamp, pulse}
@@ -81,7 +81,7 @@ others-correct {s} {ts} {x} r c j k i l l′ p q d m =
     (λ t. t)
 
 -- a predecessor is a hop away
-hop-back : {w : ℕ} (n c j k : ℕ) → c < w → is-predecessor w c j ≡ true → Within w n k j → Within w (suc n) k c
+hop-back : {w : ℕ} (n c j k : ℕ) → c < w → is-predecessor w c j ≡ true → Hops-within w n k j → Hops-within w (suc n) k c
 unfolding is-predecessor
 hop-back {w} n c j k i p v =
     by-equal j c
@@ -138,7 +138,7 @@ module _ {s : Settings} {ts : List ℕ} {xs ys : List Call} {rs qs : List (List 
       same-next n c (omega arith) o (λ m p t. (another-row n m (omega arith), up-to n m (omega arith) (omega arith) p))
 
   -- later rows outside the cone: row suc n, where n is i rows past f
-  pub outside : (i n c : ℕ) → n ≡ f + i → n < length xs → c < w → (Within w (suc i) k c → ⊥) →
+  pub outside : (i n c : ℕ) → n ≡ f + i → n < length xs → c < w → (Hops-within w (suc i) k c → ⊥) →
       getD (row-at ts rs (suc n)) c 0 ≡ getD (row-at ts qs (suc n)) c 0
   outside zero n c e j o v =
       same-next n c j o
@@ -220,11 +220,11 @@ module _ {s : Settings} {ts : List ℕ} {xs ys : List Call} {rs qs : List (List 
   reach in-run =
       record { before = λ n c i j. up-to n c i (omega arith) j; far = far; near = near }
     where
-      far : (n c : ℕ) → f < n → n ≤ length rs → c < w → (Within w (n - f) k c → ⊥) → getD (row-at ts rs n) c 0 ≡ getD (row-at ts qs n) c 0
+      far : (n c : ℕ) → f < n → n ≤ length rs → c < w → (Hops-within w (n - f) k c → ⊥) → getD (row-at ts rs n) c 0 ≡ getD (row-at ts qs n) c 0
       far zero c i j o v = let never : ⊥ = omega arith in absurd never
       far (suc n) c i j o v =
           let hops : suc (n - f) ≡ suc n - f = omega arith in
-          outside (n - f) n c (omega arith) (omega (arith, run .as-many)) o (λ u. v (subst (λ (m : ℕ). Within w m k c) hops u))
+          outside (n - f) n c (omega arith) (omega (arith, run .as-many)) o (λ u. v (subst (λ (m : ℕ). Hops-within w m k c) hops u))
 
       near : (n c : ℕ) → f < n → n ≤ length rs → c < w →
           apart (getD (row-at ts rs n) c 0) (getD (row-at ts qs n) c 0) ≤ 2 * widest-gap w (row-at ts rs f) + 8 * s .unit + (n - f - 1)
