@@ -43,7 +43,7 @@ value i v = set delays i v
 unfoldable pub marks : ℕ → List ℕ
 marks b = b ∷ []
 
--- "21 a wrong length": each lent row, one short and one long
+-- 21: each lent row, one short and one long
 unfoldable pub lengths : List Case
 lengths =
     case wall times (marks 0) drifts delays 6 0
@@ -59,7 +59,7 @@ lengths =
     ∷ case wall times (marks 0) drifts delays 7 21
     ∷ []
 
--- "22 a mark bit past the last column"
+-- 22: the last column is 5, bit 32
 unfoldable pub strays : List Case
 strays =
     case wall times (marks 32) drifts delays 6 0
@@ -67,7 +67,7 @@ strays =
     ∷ case wall times (marks 128) drifts delays 6 22
     ∷ []
 
--- "23 a correct tile's time over 2^40 - 1"
+-- 23: times up to 2^40 - 1; a faulty tile's is not looked at
 unfoldable pub late-times : List Case
 late-times =
     case wall (time 0 1099511627775) (marks 0) drifts delays 6 0
@@ -78,7 +78,7 @@ late-times =
     ∷ case wall (time 5 18446744073709551615) (marks 32) drifts delays 6 0
     ∷ []
 
--- "24 a tile with two faulty predecessors": columns 0 and 1, 0 and 3, 2 and 5; not 0 and 4, 1 and 4, 0 and 5
+-- 24: some tile hears columns 0 and 1, 0 and 3, 2 and 5; none hears 0 and 4, 1 and 4, or 0 and 5
 unfoldable pub crowds : List Case
 crowds =
     case wall times (marks 3) drifts delays 6 24
@@ -89,7 +89,7 @@ crowds =
     ∷ case wall times (marks 33) drifts delays 6 0
     ∷ []
 
--- "25 a drift over r"
+-- 25: drifts up to r
 unfoldable pub fast-clocks : List Case
 fast-clocks =
     case wall times (marks 0) (drift 0 1) delays 6 25
@@ -97,8 +97,8 @@ fast-clocks =
     ∷ case (settings 6 1 100 10 400 10000 16) times (marks 0) (drift 5 10001) delays 6 25
     ∷ []
 
--- "26 a delay outside d - u to d": 89, 90, 100 and 101, in the first link and in the last; silence is no delay. "or a faulty arrival over
--- 2^40 - 1 that isn't silent": column 3's to its own tile, which is place 11
+-- 26: delays from 90 to 100, in the first link and in the last, and no silence; faulty arrivals up to 2^40 - 1, or silence, where
+-- column 3 is broken and place 11 is its link to tile 3
 unfoldable pub links : List Case
 links =
     case wall times (marks 0) drifts (value 0 89) 6 26
@@ -114,8 +114,8 @@ links =
     ∷ case wall times (marks 8) drifts (value 10 89) 6 26
     ∷ []
 
--- "the lowest number that applies": a settings number with 21, 21 with 22, 22 with 23, 23 with 24, 24 with 25, and 25 in the last column
--- with 26 in the first
+-- where two apply, the lower: a settings number with 21, 21 with 22, 22 with 23, 23 with 24, 24 with 25, and 25 in the last column with
+-- 26 in the first
 unfoldable pub order : List Case
 order =
     case (settings 6 1 100 10 191 0 12) (replicate 5 1000) (marks 0) drifts delays 6 9

@@ -27,7 +27,7 @@ Links-met =
     × (map (link 6 numbered 5) (3 ∷ 4 ∷ 5 ∷ []) ≡ 17 ∷ 18 ∷ 19 ∷ [])
     × (links-before 6 6 ≡ 20)
 
--- "one bit a column, column 0 lowest in the first byte", W / 8 rounded up bytes
+-- a bit for each column, lowest first: byte 1 holds column 0, 160 columns 5 and 7; a byte for each eight columns begun
 unfoldable pub Marks-met : Type 0
 Marks-met =
     (columns-from 16 0 (marked (1 ∷ 0 ∷ [])) ≡ 0 ∷ [])

@@ -25,7 +25,7 @@ use Rattle.links.specs.Links.{bad-value, bad-link, bad-links}
 use Rattle.runs.specs.Run.{taken, rows, call-at, row-at}
 use Rattle.runs.specs.Reach.{Alike, apart, widest, gap-below, widest-gap, reach-ticks, One-fault}
 use Rattle.settings.proofs.Laws.AnyBelow.{none-below}
-use Rattle.runs.specs.Witness.{wall, row-0, sound, broken, stray, first-run, second-run, first-rows, second-rows, Witnessed, Rows-met, Reach-met, One-fault-met}
+use Rattle.runs.specs.Witness.{wall, row-0, sound, broken, stray, first-run, second-run, first-rows, second-rows, Witnessed, Rows-met, Differences-met, Reach-met, One-fault-met}
 
 -- the rows and the accepted calls
 computed : Rows-met × (taken wall first-run row-0 ≡ sound ∷ sound ∷ []) × (taken wall second-run row-0 ≡ sound ∷ broken ∷ [])
@@ -131,6 +131,10 @@ same-far =
     (λ v. absurd (v (record { hops = 0; few = lit≤ tt; way = stay })))
     (λ v. absurd (v (record { hops = 1; few = lit≤ tt; way = hop (lit< tt) refl stay })))
     (λ v. absurd (v (record { hops = 1; few = lit≤ tt; way = hop (lit< tt) refl stay })))
+
+pub differences-met : Differences-met
+unfolding Differences-met row-at first-rows second-rows table-from apart widest-gap gap-below widest neighbours are-neighbours columns-from
+differences-met = (refl, refl)
 
 -- 0, 0, 24, 46, 24 and 24, each at most 2 × 0 + 8 × 12 + 0
 bounded : (c : ℕ) → c < 6 → apart (first-at 2 c) (second-at 2 c) ≤ reach-ticks wall (widest-gap 6 (row-at row-0 first-rows 1)) 1

@@ -32,8 +32,8 @@ pub record Alike-among (w f k : ℕ) (xs ys : List Call) : Type 0 where
       (l c j : ℕ) → l < length xs → c < w → j < w → is-predecessor w c j ≡ true → (eqb l f && eqb j k) ≡ false →
       link w (call-at xs l .links) c j ≡ link w (call-at ys l .links) c j
 
--- "Two runs side by side": the accepted calls of both, from the same settings and row 0 times, alike but for the tile of column k in
--- row f, "so f is 0 to R - 1". How many rows there are is not asked: runs of R rows are among them.
+-- Two runs side by side: their accepted calls, alike but for the tile of column k in row f, which is a row that a call comes after.
+-- Settings and row 0 times are the same where both are runs of them. How many rows there are is not asked: runs of R rows are among them.
 pub record Two-runs (Like : (w f k : ℕ) → (xs ys : List Call) → Type 0) (w f k : ℕ) (xs ys : List Call) : Type 0 where
   pub row : f < length xs
   pub column : k < w
@@ -55,7 +55,7 @@ gap-below (suc c) w ts = max (gap-below c w ts) (widest (getD ts c 0) ts (neighb
 unfoldable pub widest-gap : (w : ℕ) → (row : List ℕ) → ℕ
 widest-gap w ts = gap-below w w ts
 
--- "2B + 8h + (L - f - 1) ticks": with B of row f, n rows after it
+-- 2B + 8h + (L - f - 1), for B of row f and n = L - f: the bound of demand 3
 unfoldable pub reach-ticks : Settings → (gap n : ℕ) → ℕ
 reach-ticks s b n = 2 * b + 8 * s .unit + (n - 1)
 

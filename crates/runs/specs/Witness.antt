@@ -4,12 +4,13 @@
 use mathlib.Core.Path.{_≡_}
 use mathlib.Core.List.{List, [], _∷_}
 use Prim.Native.Nat.{ℕ}
-use lib.ListN.{replicate}
+use lib.ListN.{getD, replicate}
 use Rattle.settings.specs.Settings.{settings}
 use Rattle.settings.specs.declared.Settings.{Settings}
+use Rattle.columns.specs.Columns.{table-from}
 use Rattle.admission.specs.Call.{Call, call}
-use Rattle.runs.specs.Run.{taken, rows}
-use Rattle.runs.specs.Reach.{Alike, Two-runs, Reach, One-fault}
+use Rattle.runs.specs.Run.{taken, rows, row-at}
+use Rattle.runs.specs.Reach.{Alike, Two-runs, apart, widest-gap, Reach, One-fault}
 
 unfoldable pub wall : Settings
 wall = settings 6 2 100 10 400 0 12
@@ -43,7 +44,7 @@ second-run = sound ∷ stray ∷ broken ∷ []
 unfoldable pub Witnessed : Type 0
 Witnessed = Two-runs Alike (wall .width) 1 3 (taken wall first-run row-0) (taken wall second-run row-0)
 
--- their rows: B of row 1 is 0, and row 2 differs by 46 in the broken column, by 24 a hop from it, and not further off
+-- their rows
 unfoldable pub first-rows : List (List ℕ)
 first-rows = replicate 6 1500 ∷ replicate 6 2000 ∷ []
 
@@ -52,6 +53,12 @@ second-rows = replicate 6 1500 ∷ (2000 ∷ 2000 ∷ 1976 ∷ 1954 ∷ 1976 ∷
 
 unfoldable pub Rows-met : Type 0
 Rows-met = (rows wall first-run row-0 ≡ first-rows) × (rows wall second-run row-0 ≡ second-rows)
+
+-- B of row 1 is 0; the pulses of row 2 differ by 46 in the broken column, by 24 a hop from it, and not further off
+unfoldable pub Differences-met : Type 0
+Differences-met =
+    (widest-gap 6 (row-at row-0 first-rows 1) ≡ 0)
+    × (table-from 6 0 (λ c. apart (getD (row-at row-0 first-rows 2) c 0) (getD (row-at row-0 second-rows 2) c 0)) ≡ 0 ∷ 0 ∷ 24 ∷ 46 ∷ 24 ∷ 24 ∷ [])
 
 -- the reach of that tile, by these numbers alone
 unfoldable pub Reach-met : Type 0
