@@ -32,8 +32,9 @@ pub record Alike-among (w f k : ℕ) (xs ys : List Call) : Type 0 where
       (l c j : ℕ) → l < length xs → c < w → j < w → is-predecessor w c j ≡ true → (eqb l f && eqb j k) ≡ false →
       link w (call-at xs l .links) c j ≡ link w (call-at ys l .links) c j
 
--- Two runs side by side: their accepted calls, alike but for the tile of column k in row f, which is a row that a call comes after.
--- Settings and row 0 times are the same where both are runs of them. How many rows there are is not asked: runs of R rows are among them.
+-- Two runs side by side, by their accepted calls: alike but for the tile of column k in row f, which is a row that a call comes after.
+-- Each statement has them under the same settings and from the same row 0 times. How many rows they have is not asked, so that runs of
+-- R rows are among them.
 pub record Two-runs (Like : (w f k : ℕ) → (xs ys : List Call) → Type 0) (w f k : ℕ) (xs ys : List Call) : Type 0 where
   pub row : f < length xs
   pub column : k < w
