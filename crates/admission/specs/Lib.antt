@@ -1,3 +1,5 @@
 pub mod Call
 pub mod Refusal
+pub mod Cases
+-- the code's own
 pub mod Together

@@ -178,9 +178,8 @@ file-is-run file k =
 
 pub file-one-fault : File-one-fault
 unfolding File-one-fault File-is-run One-fault rows-of
-file-one-fault a b f k first second same-settings same-start i j alike =
+file-one-fault a b f k first second same-settings same-start two =
     let p = file-is-run a first in
     let q = file-is-run b second in
     rw (← same-settings, ← same-start)
-    (one-fault (settings-of a) (start-of a) (calls-of a) (calls-of b) f k (first .settings-pass) (first-row a first .long) i (p .1)
-    (rw (← same-settings, ← same-start) at (q .1)) j (rw (p .0, rw (← same-settings, ← same-start) at (q .0)) alike))
+    (one-fault (settings-of a) (start-of a) (calls-of a) (calls-of b) f k (rw (p .0, rw (← same-settings, ← same-start) at (q .0)) two))

@@ -10,7 +10,7 @@ use lib.ListN.{length, getD}
 use Rattle.columns.specs.Columns.{are-neighbours, any-of}
 use Rattle.columns.specs.Marks.{marked}
 use Rattle.runs.specs.Run.{taken}
-use Rattle.runs.specs.Reach.{Alike, Reach}
+use Rattle.runs.specs.Reach.{Alike, Two-runs, Reach}
 use Rattle.seam.specs.Seam.{seam-of, number-of, side-of}
 use Rattle.seam.specs.declared.Side.the-variants.{Both}
 use Rattle.steps.specs.Shown.{Shown, lines, turned-away, number-shown}
@@ -65,5 +65,5 @@ File-is-run =
 -- so demand 3 holds of files
 unfoldable pub File-one-fault : Type 0
 File-one-fault =
-    (a b : List ℕ) (f k : ℕ) → Keeps a → Keeps b → settings-of a ≡ settings-of b → start-of a ≡ start-of b → k < settings-of a .width →
-    f < settings-of a .rows → Alike (settings-of a .width) f k (calls-of a) (calls-of b) → Reach (settings-of a) (start-of a) f k (rows-of a) (rows-of b)
+    (a b : List ℕ) (f k : ℕ) → Keeps a → Keeps b → settings-of a ≡ settings-of b → start-of a ≡ start-of b →
+    Two-runs Alike (settings-of a .width) f k (calls-of a) (calls-of b) → Reach (settings-of a) (start-of a) f k (rows-of a) (rows-of b)

@@ -1,16 +1,17 @@
 -- The proofs of what specs/Span.antt, specs/Search.antt and specs/Survey.antt state. Assumes nothing.
 use mathlib.Core.Path.{_≡_}
 use mathlib.Core.List.{[], _∷_}
-use Prim.Native.Nat.{_+_, _-_, _≤_}
+use Prim.Native.Nat.{_+_, _-_, _≤_, _<_}
 use lib.ListN.{length, take}
 use native.Mathlib.Omega.{arith}
 use Rattle.settings.proofs.Laws.Settings.{limits}
 use Rattle.settings.proofs.Laws.Cases.{by-order}
 use Rattle.runs.specs.Run.{rows}
-use Rattle.runs.specs.Reach.{apart, One-fault}
+use Rattle.runs.specs.Reach.{apart, reach-ticks, One-fault}
+use Rattle.runs.proofs.Laws.Run.{run-of, run-checked}
 use Rattle.runs.proofs.Promises.{one-fault}
 use Rattle.reach.specs.Span.{Span-right}
-use Rattle.reach.specs.Search.{reach-ticks, Search-range}
+use Rattle.reach.specs.Search.{Search-range}
 use Rattle.reach.specs.Survey.{last-reach, Row-surveyed, Largest-enough}
 use Rattle.reach.proofs.Laws.Span.{spanned}
 use Rattle.reach.proofs.Laws.Survey.{row-surveyed as row-law, largest-each, taken-length, taken-at, row-is}
@@ -21,9 +22,10 @@ span-right w n k c wide i j = spanned w n k c wide i j
 
 pub search-range : Search-range
 unfolding Search-range One-fault reach-ticks
-search-range s ts xs ys f k n c ok long i first second j alike some later l =
-    let r = one-fault s ts xs ys f k ok long i first second j alike in
-    let span = spanned (s .width) n k c (limits s ok .width .0) i l in
+search-range s ts xs ys f k n c two some later l =
+    let r = one-fault s ts xs ys f k two in
+    let ok = run-checked (run-of s xs ts) f (two .row) in
+    let span = spanned (s .width) n k c (limits s ok .width .0) (two .column) l in
     let rows : f + n - f ≡ n = omega arith in (
       λ before. r .far (f + n) c (omega arith) (omega arith) l (λ v. let g = span .reached (rw rows at v) in let never : ⊥ = omega arith in never),
       λ after. r .far (f + n) c (omega arith) (omega arith) l (λ v. let g = span .reached (rw rows at v) in let never : ⊥ = omega arith in never),
@@ -36,8 +38,9 @@ row-surveyed s l m ts ok i long early = row-law s ok l m ts i long early
 
 pub largest-enough : Largest-enough
 unfolding Largest-enough One-fault last-reach reach-ticks apart
-largest-enough s ts xs ys f k l c ok long i first second j alike m n =
-    let r = one-fault s ts xs ys f k ok long i first second j alike in
+largest-enough s ts xs ys f k l c two first m n =
+    let r = one-fault s ts xs ys f k two in
+    let j : f < s .rows = omega (arith, two .row, run-of s xs ts .as-many, first) in
     let rs = ts ∷ rows s xs ts in
     let more : s .rows ≤ length rs = omega (arith, first) in
     let each = largest-each s 0 0 f (take (s .rows) rs) (omega (arith, taken-length (s .rows) rs more, j)) in

@@ -3,7 +3,7 @@
 use mathlib.Core.Path.{_≡_}
 use mathlib.Core.Bool.{Bool, cond, not, _&&_, _||_}
 use mathlib.Core.List.{List}
-use Prim.Native.Nat.{ℕ, _+_, _-_, _*_, _≤_, _<_}
+use Prim.Native.Nat.{ℕ, _+_, _-_, _≤_, _<_}
 use lib.Dec.{eqb, ltb}
 use lib.ListN.{length, getD}
 use Rattle.settings.specs.Settings.{settings-refusal}
@@ -11,7 +11,7 @@ use Rattle.rule.specs.Stamp.{latest-stamp}
 use Rattle.settings.specs.declared.Settings.{Settings}
 use Rattle.admission.specs.Call.{Call}
 use Rattle.runs.specs.Run.{taken, rows, row-at}
-use Rattle.runs.specs.Reach.{Alike, apart, widest-gap}
+use Rattle.runs.specs.Reach.{Alike, Two-runs, apart, widest-gap, reach-ticks}
 use Rattle.reach.specs.Span.{first-within, last-within}
 use Rattle.reach.specs.declared.Gap.{Gap}
 use Rattle.reach.specs.declared.Gap.the-variants as gap
@@ -23,10 +23,6 @@ unfoldable pub gap-of : Settings → (row : List ℕ) → Gap
 gap-of s ts =
     cond (not (eqb (settings-refusal s) 0)) (gap.Refused (settings-refusal s))
     (cond (not (eqb (length ts) (s .width))) (gap.Refused 21) (gap.Widest (widest-gap (s .width) ts)))
-
--- "2B + 8h + (L - f - 1)", n rows after the broken tile's
-unfoldable pub reach-ticks : Settings → (gap rows : ℕ) → ℕ
-reach-ticks s b n = 2 * b + 8 * s .unit + (n - 1)
 
 -- no later row of the wall, no column of it, or a gap over 2^41 - 1
 unfoldable pub outside-wall : Settings → (gap rows column : ℕ) → Bool
@@ -48,9 +44,8 @@ reach-in-row s b f l k =
 -- alone, and by at most so many ticks
 unfoldable pub Search-range : Type 0
 Search-range =
-    (s : Settings) (ts : List ℕ) (xs ys : List Call) (f k n c : ℕ) → settings-refusal s ≡ 0 → length ts ≡ s .width → k < s .width →
-    length (rows s xs ts) ≡ s .rows → length (rows s ys ts) ≡ s .rows → f < s .rows → Alike (s .width) f k (taken s xs ts) (taken s ys ts) →
-    0 < n → f + n ≤ s .rows → c < s .width →
+    (s : Settings) (ts : List ℕ) (xs ys : List Call) (f k n c : ℕ) → Two-runs Alike (s .width) f k (taken s xs ts) (taken s ys ts) →
+    0 < n → f + n ≤ length (rows s xs ts) → c < s .width →
     let here = getD (row-at ts (rows s xs ts) (f + n)) c 0 in
     let there = getD (row-at ts (rows s ys ts) (f + n)) c 0 in
     (c < first-within (s .width) k n → here ≡ there) × (last-within (s .width) k n < c → here ≡ there)

@@ -8,8 +8,8 @@ use Rattle.rule.specs.Stamp.{latest-stamp}
 use Rattle.settings.specs.declared.Settings.{Settings}
 use Rattle.admission.specs.Call.{Call}
 use Rattle.runs.specs.Run.{taken, rows, row-at}
-use Rattle.runs.specs.Reach.{Alike, apart, widest-gap}
-use Rattle.reach.specs.Search.{gap-of, reach-of, reach-ticks}
+use Rattle.runs.specs.Reach.{Alike, Two-runs, apart, widest-gap, reach-ticks}
+use Rattle.reach.specs.Search.{gap-of, reach-of}
 use Rattle.reach.specs.declared.Gap.{Gap}
 use Rattle.reach.specs.declared.Gap.the-variants as gap
 use Rattle.reach.specs.declared.Reached.{Reached}
@@ -50,8 +50,7 @@ Row-surveyed =
 -- 0 to R - 1 of the run without faults
 unfoldable pub Largest-enough : Type 0
 Largest-enough =
-    (s : Settings) (ts : List ℕ) (xs ys : List Call) (f k l c : ℕ) → settings-refusal s ≡ 0 → length ts ≡ s .width → k < s .width →
-    length (rows s xs ts) ≡ s .rows → length (rows s ys ts) ≡ s .rows → f < s .rows → Alike (s .width) f k (taken s xs ts) (taken s ys ts) →
-    l ≤ s .rows → c < s .width →
+    (s : Settings) (ts : List ℕ) (xs ys : List Call) (f k l c : ℕ) → Two-runs Alike (s .width) f k (taken s xs ts) (taken s ys ts) →
+    length (rows s xs ts) ≡ s .rows → l ≤ s .rows → c < s .width →
     apart (getD (row-at ts (rows s xs ts) l) c 0) (getD (row-at ts (rows s ys ts) l) c 0)
     ≤ largest-of s 0 0 (take (s .rows) (ts ∷ rows s xs ts))

@@ -9,7 +9,8 @@ use native.Mathlib.Omega.{arith}
 use borrow.Author.Tests.{le-ltb}
 use Rattle.settings.proofs.Laws.Cases.{by-order}
 use Rattle.columns.specs.Columns.{predecessors}
-use Rattle.columns.specs.Marks.{marked, faulty-among, Quiet}
+use Rattle.columns.specs.Marks.{marked, faulty-among}
+use Rattle.columns.specs.Plain.{Quiet}
 use Rattle.admission.specs.Refusal.{crowded}
 use Rattle.columns.specs.Window.{four-senders}
 use Rattle.columns.proofs.Laws.Columns.{four-no}
