@@ -32,7 +32,7 @@ use Rattle.stream.proofs.Laws.State.{part-taken}
 use Rattle.window.specs.Window.{In-buffer, bytes-in}
 use Rattle.search.specs.Search.{search-step, Tells}
 use Rattle.range.proofs.Laws.File.{from, part-told, one-step}
-use Rattle.file.proofs.Laws.Tells.{part-enough}
+use Rattle.file.proofs.Laws.Steps.{part-enough}
 
 -- a wall that stands takes its step, with rows of its width
 pub never-unfit : {x : Wall} {part row held next : List ℕ} {answer : Taken} → Stands x → length row ≡ width-of x → length held ≡ width-of x →
