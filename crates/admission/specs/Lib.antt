@@ -1,3 +1,4 @@
 pub mod Call
 pub mod Refusal
 pub mod Together
+pub mod Limits

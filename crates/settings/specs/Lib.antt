@@ -2,3 +2,4 @@ pub mod Refusal
 pub mod Rounding
 pub mod Settings
 pub mod Promises
+pub mod Limits
