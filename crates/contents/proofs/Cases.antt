@@ -1,12 +1,13 @@
 -- The cases of specs/Cases.antt, computed. Assumes nothing.
 use mathlib.Core.Path.{refl}
+use native.Mathlib.Omega.{arith}
 use Rattle.settings.specs.Settings.{settings}
 use Rattle.columns.specs.Columns.{are-neighbours, columns-from, is-predecessor, predecessors, links-before, table-from}
 use Rattle.columns.specs.Marks.{mark-bytes}
 use Rattle.fields.specs.Bytes.{big-endian}
 use Rattle.fields.specs.Field.{body}
 use Rattle.contents.specs.Contents.{settings-in, times-in, late-start, tile-place, drifts-in, tile-links, links-below, links-in, marks-field, row-size, marks-in, tiles-in}
-use Rattle.contents.specs.Cases.{body-1, body-4, row-fields, Settings-read, Start-read, Tiles-read, Row-read, Sizes-met}
+use Rattle.contents.specs.Cases.{body-1, body-4, row-fields, Settings-read, Start-read, Tiles-read, Row-read, Sizes-met, Sizes-plain}
 
 pub settings-read : Settings-read
 unfolding Settings-read body-1 settings-in settings big-endian
@@ -27,3 +28,7 @@ row-read = (refl, refl)
 pub sizes-met : Sizes-met
 unfolding Sizes-met marks-field row-size mark-bytes
 sizes-met = (refl, refl, refl, refl, refl, refl, refl, refl, refl, refl)
+
+pub sizes-plain : Sizes-plain
+unfolding Sizes-plain marks-field row-size mark-bytes
+sizes-plain w = (refl, refl, refl, omega arith)

@@ -2,7 +2,7 @@
 use mathlib.Core.Path.{_≡_}
 use mathlib.Core.Bool.{true, false}
 use mathlib.Core.List.{List, [], _∷_, _++_}
-use Prim.Native.Nat.{ℕ}
+use Prim.Native.Nat.{ℕ, _+_, _*_, _/_}
 use Rattle.settings.specs.declared.Settings.{Settings}
 use Rattle.columns.specs.Columns.{table-from}
 use Rattle.contents.specs.Contents.{settings-size, settings-in, start-size, times-in, late-start, tiles-size, drifts-in, links-in, marks-field, row-size, marks-in, tiles-in}
@@ -52,3 +52,8 @@ unfoldable pub Sizes-met : Type 0
 Sizes-met =
     (settings-size ≡ 24) × (start-size 6 ≡ 48) × (tiles-size 6 ≡ 172) × (tiles-size 256 ≡ 6672) × (marks-field 6 ≡ 4) × (marks-field 8 ≡ 4)
     × (marks-field 9 ≡ 5) × (marks-field 256 ≡ 35) × (row-size 6 ≡ 179) × (row-size 256 ≡ 6710)
+
+-- .. and of any W
+unfoldable pub Sizes-plain : Type 0
+Sizes-plain =
+    (w : ℕ) → (start-size w ≡ 8 * w) × (tiles-size w ≡ 26 * w + 16) × (marks-field w ≡ 3 + (w + 7) / 8) × (row-size w ≡ 22 + (w + 7) / 8 + 26 * w)
