@@ -29,6 +29,7 @@ use Rattle.file.specs.File.{rows-shown, start-shown, shown}
 use Rattle.file.specs.Limits.{settings-of, after-settings, start-of, after-start, calls-in, calls-of, rows-of, Keeps, run-shown}
 use Rattle.file.specs.Program.{Calls-right, Reached-fits}
 use Rattle.file.specs.Promises.{Steps-right, Accepted-whole, Others-refused, File-plain, Numbers-met, Seams-answered, File-is-run, File-one-fault}
+use Rattle.file.specs.Stands.{Steps-fewer}
 use Rattle.file.specs.Takes.{Take-calls-right}
 use Rattle.file.proofs.Laws.Calls.{calls-right as calls-law}
 use Rattle.contents.proofs.Laws.Contents.{times-length}
@@ -37,6 +38,7 @@ use Rattle.file.proofs.Laws.Numbers.{rows-met, settings-number-met, sta
 use Rattle.file.proofs.Laws.Reached.{reached-fits as reached-law}
 use Rattle.file.proofs.Laws.Rows.{Grown, rows-accepted, all-taken, number-after, number-alone, rows-kept}
 use Rattle.file.proofs.Laws.Seams.{rows-hold, away-holds}
+use Rattle.file.proofs.Laws.Stands.{step-ahead}
 use Rattle.file.proofs.Laws.Steps.{steps-right as steps-law}
 use Rattle.file.proofs.Laws.Takes.{take-calls-right as take-calls-law}
 
@@ -56,6 +58,10 @@ take-calls-right row file shows calls = take-calls-law row file shows calls
 pub reached-fits : Reached-fits
 unfolding Reached-fits
 reached-fits x row r long = reached-law x row r long
+
+pub steps-fewer : Steps-fewer
+unfolding Steps-fewer
+steps-fewer x row part i k = let a = step-ahead x row part i k in (a .stands, a .less)
 
 no-number : (b : Bool) (n : ℕ) → cond b (suc n) 0 ≡ 0 → b ≡ false
 no-number true n e = let never : ⊥ = omega arith in absurd never
@@ -108,7 +114,7 @@ module _ (file : List ℕ) where
 
     early-kept : (c : ℕ) → c < settings-of file .width → getD (start-of file) c 0 ≤ 549755813887
     unfolding late-start
-    early-kept c i = ltb-false 549755813887 (getD (start-of file) c 0) (none-below _ (settings-of file .width) c i (start-kept .1))
+    early-kept c i = omega (arith, ltb-false 549755813887 (getD (start-of file) c 0) (none-below _ (settings-of file .width) c i (start-kept .1)))
 
     first-grown : Grown (settings-of file) 0 (start-of file)
     unfolding start-of
@@ -126,7 +132,7 @@ module _ (file : List ℕ) (k : Keeps file) where
 
   none-late : any-below (settings-of file .width) (late-start (start-of file)) ≡ false
   unfolding late-start
-  none-late = none-till _ (settings-of file .width) (λ c i. le-ltb 549755813887 (getD (start-of file) c 0) (k .start-early c i))
+  none-late = none-till _ (settings-of file .width) (λ c i. le-ltb 549755813887 (getD (start-of file) c 0) (omega (arith, k .start-early c i)))
 
   pub start-accepted : start-at file ≡ 0
   unfolding start-number start-of Field-plain

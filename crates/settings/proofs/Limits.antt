@@ -21,15 +21,15 @@ cost-most r a c i =
 kept : (s : Settings) → Limits s → settings-refusal s ≡ 0
 unfolding settings-refusal settings-tests
 kept s k =
-    skip 1 _ (within 6 256 (s .width) (k .width .0) (k .width .1))
-    ∙ skip 2 _ (within 1 1024 (s .rows) (k .rows .0) (k .rows .1))
-    ∙ skip 3 _ (within 1 1000000 (s .delay) (k .delay .0) (k .delay .1))
-    ∙ skip 4 _ (within 0 (s .delay) (s .uncertainty) (omega arith) (k .uncertainty))
-    ∙ skip 5 _ (within 1 1000000 (s .hold) (k .hold .0) (k .hold .1))
-    ∙ skip 6 _ (within 0 10000 (s .drift) (omega arith) (k .drift))
-    ∙ skip 7 _ (within 1 62500 (s .unit) (k .unit .0) (k .unit .1))
+    skip 1 _ (within 6 256 (s .width) (omega (arith, k .width)) (omega (arith, k .width)))
+    ∙ skip 2 _ (within 1 1024 (s .rows) (omega (arith, k .rows)) (omega (arith, k .rows)))
+    ∙ skip 3 _ (within 1 1000000 (s .delay) (omega (arith, k .delay)) (omega (arith, k .delay)))
+    ∙ skip 4 _ (within 0 (s .delay) (s .uncertainty) (omega arith) (omega (arith, k .uncertainty)))
+    ∙ skip 5 _ (within 1 1000000 (s .hold) (omega (arith, k .hold)) (omega (arith, k .hold)))
+    ∙ skip 6 _ (within 0 10000 (s .drift) (omega arith) (omega (arith, k .drift)))
+    ∙ skip 7 _ (within 1 62500 (s .unit) (omega (arith, k .unit)) (omega (arith, k .unit)))
     ∙ skip 8 _ (le-ltb (s .unit) _ (omega (arith, k .cost, cost-most (s .drift) (s .hold) (k .c) (k .c-enough))))
-    ∙ end 9 (le-ltb (s .hold) (16 * s .unit) (k .held))
+    ∙ end 9 (le-ltb (s .hold) (16 * s .unit) (omega (arith, k .held)))
 
 pub settings-plain : Settings-plain
 unfolding Settings-plain

@@ -116,8 +116,8 @@ module _ (w c k : ℕ) (wide : 6 ≤ w) (here : c < w) (in-row : k < w) where
     pub link-there : Link-at w c k (link-place w c k)
     link-there =
         by-order c 2
-        (λ i. to-first-three i (first-three i))
-        (λ i. by-order (c + 3) w (λ j. to-others i j (others i j)) (λ j. to-last-two (omega arith) (last-two (omega arith))))
+        (λ i. to-first-three i (omega (arith, first-three i)))
+        (λ i. by-order (c + 3) w (λ j. to-others i j (omega (arith, others i j))) (λ j. to-last-two (omega arith) (omega (arith, last-two (omega arith)))))
 
     pub link-is : (n : ℕ) → Link-at w c k n → n ≡ link-place w c k
     link-is n (to-first-three i e) = omega (arith, e, first-three i)

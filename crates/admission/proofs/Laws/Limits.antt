@@ -87,7 +87,7 @@ module _ (s : Settings) (ms ds ls : List ℕ) (wide : 6 ≤ s .width) where
         record {
           none-stray = none-till _ (8 * mark-bytes (s .width)) (λ c i. no-stray c);
           none-crowded = none-till _ (s .width) not-crowded;
-          none-fast = none-till _ (s .width) (λ c i. le-ltb (s .drift) (getD ds c 0) (k .slow c i));
+          none-fast = none-till _ (s .width) (λ c i. le-ltb (s .drift) (getD ds c 0) (omega (arith, k .slow c i)));
           none-bad = none-till _ (s .width) not-bad;
         }
 
@@ -125,7 +125,7 @@ module _ (s : Settings) (ms ds ls : List ℕ) (wide : 6 ≤ s .width) where
           one-faulty = λ c a b i j l h g p q. by-order a b
               (λ o. by-equal a b (λ e. e) (λ n. absurd (not-two c a b i (omega arith) l h g p q)))
               (λ o. absurd (not-two c b a i o j g h q p));
-          slow = λ c i. ltb-false (s .drift) (getD ds c 0) (none-below _ (s .width) c i (t .none-fast));
+          slow = λ c i. omega (arith, ltb-false (s .drift) (getD ds c 0) (none-below _ (s .width) c i (t .none-fast)));
           delay = λ c a n i j h at p. delay-of s (marked ms a) (getD ls n 0) p (right-value c a n i j h at);
           arrival = λ c a n i j h at p. by-equal (getD ls n 0) silence inr
               (λ o. inl (arrival-of s (marked ms a) (getD ls n 0) p (right-value c a n i j h at) o));

@@ -37,16 +37,16 @@ limits s e =
     let t8 = unhit 7 (ltb (s .unit) (s .uncertainty + drift-cost (s .drift) (s .hold) + 2)) _ (t7 .1) in
     let t9 = unhit 8 (ltb (s .hold) (16 * s .unit)) _ (t8 .1) in
     record {
-      width = inside 6 256 (s .width) (t1 .0);
-      rows = inside 1 1024 (s .rows) (t2 .0);
-      delay = inside 1 1000000 (s .delay) (t3 .0);
-      uncertainty = inside 0 (s .delay) (s .uncertainty) (t4 .0) .1;
-      hold = inside 1 1000000 (s .hold) (t5 .0);
-      drift = inside 0 10000 (s .drift) (t6 .0) .1;
-      unit = inside 1 62500 (s .unit) (t7 .0);
+      width = omega (arith, inside 6 256 (s .width) (t1 .0));
+      rows = omega (arith, inside 1 1024 (s .rows) (t2 .0));
+      delay = omega (arith, inside 1 1000000 (s .delay) (t3 .0));
+      uncertainty = omega (arith, inside 0 (s .delay) (s .uncertainty) (t4 .0));
+      hold = omega (arith, inside 1 1000000 (s .hold) (t5 .0));
+      drift = omega (arith, inside 0 10000 (s .drift) (t6 .0));
+      unit = omega (arith, inside 1 62500 (s .unit) (t7 .0));
       c = drift-cost (s .drift) (s .hold);
       c-enough = up-reaches (s .drift * s .hold) {b = 1000000 + s .drift} (omega arith);
       c-least = up-least (s .drift * s .hold) {b = 1000000 + s .drift} (omega arith);
-      cost = ltb-false (s .unit) (s .uncertainty + drift-cost (s .drift) (s .hold) + 2) (t8 .0);
-      held = ltb-false (s .hold) (16 * s .unit) (t9 .0);
+      cost = omega (arith, ltb-false (s .unit) (s .uncertainty + drift-cost (s .drift) (s .hold) + 2) (t8 .0));
+      held = omega (arith, ltb-false (s .hold) (16 * s .unit) (t9 .0));
     }
