@@ -27,7 +27,7 @@ use Rattle.steps.specs.Number.{settings-number, start-number, row-number, row-o
 use Rattle.steps.specs.Shown.{row-shown, no-marks, number-shown}
 use Rattle.show.specs.Text.{text-of, texts-of}
 use Rattle.file.specs.File.{rows-shown, start-shown, shown, wall-text}
-use Rattle.file.specs.Cases.{codes, printed, put, printed-file, Printed-whole, Byte-more, faulty-file, first-row, second-row, Faulty-printed, Second-row-refused, Faulty-byte-more}
+use Rattle.file.specs.Cases.{codes, printed, put, printed-file, Printed-whole, Byte-more, faulty-file, first-lines, second-lines, Faulty-printed, Second-row-refused, Faulty-byte-more}
 use Rattle.file.specs.Refusals.{case, changed, cut, fields-refused, settings-refused, row-refused, order-kept, Refusals-met, latest-start, Latest-start-met}
 
 -- the definitions that a refusal is computed by, and those of the rows and lines that are shown
@@ -48,7 +48,7 @@ unfolding Byte-more showing
 byte-more = refl
 
 pub faulty-printed : Faulty-printed
-unfolding Faulty-printed faulty-file first-row second-row showing
+unfolding Faulty-printed faulty-file first-lines second-lines showing
 faulty-printed = refl
 
 pub second-row-refused : Second-row-refused
@@ -56,7 +56,7 @@ unfolding Second-row-refused faulty-file showing
 second-row-refused = refl
 
 pub faulty-byte-more : Faulty-byte-more
-unfolding Faulty-byte-more faulty-file first-row showing
+unfolding Faulty-byte-more faulty-file first-lines showing
 faulty-byte-more = refl
 
 pub refusals-met : Refusals-met

@@ -99,8 +99,8 @@ faulty-file =
     ++ (4 ∷ 210 ∷ 0 ∷ 0 ∷ 0 ∷ 0 ∷ 0 ∷ 0 ∷ 0 ∷ 94 ∷ 0 ∷ 0 ∷ 0 ∷ 0 ∷ 0 ∷ 0 ∷ 0 ∷ 96 ∷ 0 ∷ 0 ∷ 0 ∷ 0 ∷ 0 ∷ 0 ∷ 0 ∷ 98 ∷ [])
     ++ (19 ∷ 136 ∷ 0 ∷ 0 ∷ 0 ∷ 0 ∷ 0 ∷ 0 ∷ 0 ∷ 99 ∷ 0 ∷ 0 ∷ 0 ∷ 0 ∷ 0 ∷ 0 ∷ 0 ∷ 90 ∷ 0 ∷ 0 ∷ 0 ∷ 0 ∷ 0 ∷ 0 ∷ 0 ∷ 92 ∷ [])
 
-unfoldable pub first-row : List String
-first-row =
+unfoldable pub first-lines : List String
+first-lines =
     "t 1 0 1490"
     ∷ "t 1 1 1504"
     ∷ "t 1 2 -"
@@ -116,8 +116,8 @@ first-row =
     ∷ "s 1 4 5 4097440000000000 4008000000000000"
     ∷ []
 
-unfoldable pub second-row : List String
-second-row =
+unfoldable pub second-lines : List String
+second-lines =
     "t 2 0 1976"
     ∷ "t 2 1 2001"
     ∷ "t 2 2 2088"
@@ -134,7 +134,7 @@ second-row =
     ∷ []
 
 unfoldable pub Faulty-printed : Type 0
-Faulty-printed = wall-text faulty-file ≡ printed (first-row ++ second-row)
+Faulty-printed = wall-text faulty-file ≡ printed (first-lines ++ second-lines)
 
 -- a drift of 10001 in row 2: "25 a drift over r", and row 1 is not shown
 unfoldable pub Second-row-refused : Type 0
@@ -142,4 +142,4 @@ Second-row-refused = wall-text (put 350 (39 ∷ 17 ∷ []) faulty-file) ≡ prin
 
 -- with a byte more row 1 is shown and row 2 is not
 unfoldable pub Faulty-byte-more : Type 0
-Faulty-byte-more = wall-text (faulty-file ++ (3 ∷ [])) ≡ printed (first-row ++ ("refused 44 at 436" ∷ []))
+Faulty-byte-more = wall-text (faulty-file ++ (3 ∷ [])) ≡ printed (first-lines ++ ("refused 44 at 436" ∷ []))

@@ -10,7 +10,7 @@ use Rattle.stages.specs.Fit.{due-of}
 use Rattle.stages.specs.declared.Place.{Place}
 use Rattle.stages.specs.declared.Wall.{Wall}
 use Rattle.stages.specs.declared.Wall.the-variants.{New, Start, Row, End, Over}
-use Rattle.steps.specs.Answer.{wall-of, shown-next}
+use Rattle.steps.specs.Answer.{wall-of, shown-then}
 use Rattle.steps.specs.Shown.{Shown, turned-away}
 use Rattle.steps.specs.Take.{Taking}
 use Rattle.steps.specs.declared.Taken.{Taken}
@@ -19,7 +19,7 @@ use Rattle.file.specs.File.{shown}
 
 -- what a call shows by its answer: the refusal, or the row that was lent where the part lets it be shown
 unfoldable pub call-shows : (due : Wall) → (row part : List ℕ) → Taken → List Shown
-call-shows x ts bs (answer.Took t) = cond (eqb (t .number) 0) (shown-next x ts bs) (turned-away (t .number) (t .offset) ∷ [])
+call-shows x ts bs (answer.Took t) = cond (eqb (t .number) 0) (shown-then x ts bs) (turned-away (t .number) (t .offset) ∷ [])
 call-shows x ts bs answer.Unfit = []
 
 -- the row that the next call is lent: what this one wrote, row 0 or the next row, where it writes one

@@ -50,25 +50,25 @@ offset-due (End p) bs = p .offset
 offset-due Over bs = 0
 
 -- .. and once it is accepted: what is due next
-unfoldable pub wall-next : Wall → (part : List ℕ) → Wall
-wall-next New bs = Start (place (settings-in (body settings-size bs)) 0 (3 + settings-size))
-wall-next (Start p) bs = Row (place (p .settings) 0 (p .offset + (3 + start-size (p .settings .width))))
-wall-next (Row p) bs = after-row (p .settings) (suc (p .row)) (p .offset + row-size (p .settings .width))
-wall-next (End p) bs = Over
-wall-next Over bs = Over
+unfoldable pub wall-then : Wall → (part : List ℕ) → Wall
+wall-then New bs = Start (place (settings-in (body settings-size bs)) 0 (3 + settings-size))
+wall-then (Start p) bs = Row (place (p .settings) 0 (p .offset + (3 + start-size (p .settings .width))))
+wall-then (Row p) bs = after-row (p .settings) (suc (p .row)) (p .offset + row-size (p .settings .width))
+wall-then (End p) bs = Over
+wall-then Over bs = Over
 
 -- .. the row that is written, row 0 or the next
-unfoldable pub row-next : Wall → (row part held : List ℕ) → List ℕ
-row-next New ts bs held = held
-row-next (Start p) ts bs held = times-in (p .settings .width) (body (start-size (p .settings .width)) bs)
-row-next (Row p) ts bs held = row-of (p .settings) ts (call-in (p .settings .width) bs)
-row-next (End p) ts bs held = held
-row-next Over ts bs held = held
+unfoldable pub row-then : Wall → (row part held : List ℕ) → List ℕ
+row-then New ts bs held = held
+row-then (Start p) ts bs held = times-in (p .settings .width) (body (start-size (p .settings .width)) bs)
+row-then (Row p) ts bs held = row-of (p .settings) ts (call-in (p .settings .width) bs)
+row-then (End p) ts bs held = held
+row-then Over ts bs held = held
 
 -- .. and what is then shown: the last row, since the next is accepted or the file has ended rightly
-unfoldable pub shown-next : Wall → (row part : List ℕ) → List Shown
-shown-next New ts bs = []
-shown-next (Start p) ts bs = []
-shown-next (Row p) ts bs = row-shown (p .settings) (p .row) (marks-in (p .settings .width) bs) ts
-shown-next (End p) ts bs = row-shown (p .settings) (p .row) (no-marks (p .settings .width)) ts
-shown-next Over ts bs = []
+unfoldable pub shown-then : Wall → (row part : List ℕ) → List Shown
+shown-then New ts bs = []
+shown-then (Start p) ts bs = []
+shown-then (Row p) ts bs = row-shown (p .settings) (p .row) (marks-in (p .settings .width) bs) ts
+shown-then (End p) ts bs = row-shown (p .settings) (p .row) (no-marks (p .settings .width)) ts
+shown-then Over ts bs = []

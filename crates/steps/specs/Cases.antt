@@ -68,7 +68,7 @@ step-cases =
     ∷ case 44 257 (End (placed 1 257)) (1 ∷ [])
     ∷ []
 
--- each shows its refusal and nothing else, whatever row was lent
+-- each shows its refusal and nothing else; the row that is lent holds 1000 in each column
 unfoldable pub Step-cases-met : Type 0
 Step-cases-met =
     map (λ x. step-of (x .due) (replicate 6 1000) (x .part) .shows) step-cases ≡ map (λ x. turned-away (x .number) (x .offset) ∷ []) step-cases

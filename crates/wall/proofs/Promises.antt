@@ -7,7 +7,7 @@ use Prim.Native.Nat.{ℕ, _+_}
 use lib.ListN.{length}
 use Rattle.lines.specs.Line.{refused-line}
 use Rattle.show.specs.Text.{text-of, texts-of}
-use Rattle.steps.specs.Answer.{number-due, offset-due, wall-next, row-next, shown-next}
+use Rattle.steps.specs.Answer.{number-due, offset-due, wall-then, row-then, shown-then}
 use Rattle.steps.specs.Step.{Stepped, stepped, away, step-of}
 use Rattle.steps.proofs.Laws.Answer.{step-goes, step-away}
 use Rattle.stages.specs.declared.Wall.{Wall}
@@ -48,7 +48,7 @@ step-answered x part row held at answer row-after out d = (
   λ e. let is : answer ≡ step.Unfit = rw e at (d .answered) in
       (ap wall-of is, ap end-of is, rw e at (d .row-left), d .kept e),
   λ e z. let o = next-of _ _ _ _ (step-goes row part x z) in (
-    by-step x part row held at answer row-after out d e (wall-next x part) (texts-of (shown-next x row part)) (o .0) (ap texts-of (o .2)),
+    by-step x part row held at answer row-after out d e (wall-then x part) (texts-of (shown-then x row part)) (o .0) (ap texts-of (o .2)),
     row-is x part row held at answer row-after out d e ∙ o .1,
   ),
   λ e k. let o = away-of _ _ _ _ (step-away row part x k) in (

@@ -9,7 +9,7 @@ use lib.ListN.{length}
 use Rattle.lines.specs.Line.{refused-line}
 use Rattle.lines.specs.Wrote.{Wrote}
 use Rattle.show.specs.Text.{texts-of}
-use Rattle.steps.specs.Answer.{number-due, offset-due, wall-next, row-next, shown-next}
+use Rattle.steps.specs.Answer.{number-due, offset-due, wall-then, row-then, shown-then}
 use Rattle.stages.specs.declared.Wall.{Wall}
 use Rattle.stages.specs.declared.Wall.the-variants.{Over}
 use Rattle.wall.specs.Operation.{fits, wall-of, end-of, Stepping}
@@ -29,6 +29,6 @@ Step-answered =
     (x : Wall) (part row held : List ℕ) (at : ℕ) (answer : Answer) (row-after out : List ℕ) → Stepping x part row held at answer row-after out →
     (fits x (length row) (length held) at ≡ false → (wall-of answer ≡ none) × (end-of answer ≡ none) × (row-after ≡ row) × (out ≡ held))
     × (fits x (length row) (length held) at ≡ true → number-due x row part ≡ 0 →
-    Answered held at answer out (wall-next x part) (texts-of (shown-next x row part)) × (row-after ≡ row-next x row part row))
+    Answered held at answer out (wall-then x part) (texts-of (shown-then x row part)) × (row-after ≡ row-then x row part row))
     × (fits x (length row) (length held) at ≡ true → (number-due x row part ≡ 0 → ⊥) →
     Answered held at answer out Over (refused-line (number-due x row part) (offset-due x part)) × (row-after ≡ row))

@@ -12,7 +12,7 @@ use Rattle.stages.specs.Fit.{due-of, wall-fits}
 use Rattle.stages.specs.declared.Wall.{Wall}
 use Rattle.stages.specs.declared.Wall.the-variants.{New, Start, Row, End, Over}
 use Rattle.stages.proofs.Laws.{fits-due}
-use Rattle.steps.specs.Answer.{wall-of, number-due, row-next}
+use Rattle.steps.specs.Answer.{wall-of, number-due, row-then}
 use Rattle.steps.specs.Shown.{Shown}
 use Rattle.steps.specs.Step.{stepped, away, step-of, steps-shown}
 use Rattle.steps.specs.Take.{took, next-row, Taking}
@@ -30,8 +30,8 @@ use Rattle.file.proofs.Laws.Steps.{nothing-more, steps-right}
 
 -- the row that the next call is lent is the step's
 lent-is : (x : Wall) (row part held next : List ℕ) → next ≡ next-row x row part held → number-due x row part ≡ 0 →
-    lent-next x row next ≡ row-next x row part row
-unfolding lent-next row-next
+    lent-next x row next ≡ row-then x row part row
+unfolding lent-next row-then
 lent-is New row part held next w e = refl
 lent-is (Start p) row part held next w e = w ∙ row-goes-on row part held (Start p) e
 lent-is (Row p) row part held next w e = w ∙ row-goes-on row part held (Row p) e
