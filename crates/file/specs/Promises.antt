@@ -3,6 +3,7 @@
 use mathlib.Core.Path.{_≡_}
 use mathlib.Core.Bool.{Bool, true, _||_}
 use mathlib.Core.List.{List, [], _∷_}
+use mathlib.Core.Logic.{_↔_}
 use mathlib.Core.Option.{some}
 use Prim.Native.Nat.{ℕ, _<_}
 use lib.Dec.{leb, eqb}
@@ -33,6 +34,10 @@ Accepted-whole =
 -- .. "Any other is turned away": a file that isn't turned away keeps every limit
 unfoldable pub Others-refused : Type 0
 Others-refused = (file : List ℕ) → number-shown (shown file) ≡ 0 → Keeps file
+
+-- so the limits, said plainly, are those of the refusals: a file keeps them exactly where it is not turned away
+unfoldable pub File-plain : Type 0
+File-plain = (file : List ℕ) → Keeps file ↔ (number-shown (shown file) ≡ 0)
 
 -- .. "with the number that 01 gives for its fault": 21 and 23 never arise
 unfoldable pub in-a-file : (number : ℕ) → Bool

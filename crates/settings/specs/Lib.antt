@@ -3,3 +3,4 @@ pub mod Rounding
 pub mod Settings
 pub mod Cases
 pub mod Promises
+pub mod Limits
