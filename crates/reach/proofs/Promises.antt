@@ -1,47 +1,64 @@
--- The proofs of what specs/Span.antt, specs/Search.antt and specs/Survey.antt state. Assumes nothing.
-use mathlib.Core.Path.{_≡_}
+-- The proofs of what specs/Span.antt, specs/Survey.antt, specs/Answers.antt and specs/Promises.antt state. Assumes nothing.
 use mathlib.Core.List.{[], _∷_}
-use Prim.Native.Nat.{_+_, _-_, _≤_}
+use Prim.Native.Nat.{_≤_}
 use lib.ListN.{length, take}
 use native.Mathlib.Omega.{arith}
-use Rattle.settings.proofs.Laws.Settings.{limits}
 use Rattle.settings.proofs.Laws.Cases.{by-order}
 use Rattle.runs.specs.Run.{rows}
-use Rattle.runs.specs.Reach.{apart, One-fault}
-use Rattle.runs.proofs.Promises.{one-fault}
+use Rattle.runs.specs.Reach.{apart}
+use Rattle.runs.proofs.Laws.Reach.{neighbours-apart}
 use Rattle.reach.specs.Span.{Span-right}
-use Rattle.reach.specs.Search.{reach-ticks, Search-range}
-use Rattle.reach.specs.Survey.{last-reach, Row-surveyed, Largest-enough}
+use Rattle.reach.specs.Search.{reach-ticks}
+use Rattle.reach.specs.Survey.{last-reach, Row-surveyed}
+use Rattle.reach.specs.Answers.{Gap-answered, Reach-answered, Survey-answered}
+use Rattle.reach.specs.Promises.{B-largest, Row-reached, Search-range, Largest-enough}
+use Rattle.reach.proofs.Laws.Gap.{not-wider}
 use Rattle.reach.proofs.Laws.Span.{spanned}
 use Rattle.reach.proofs.Laws.Survey.{row-surveyed as row-law, largest-each, taken-length, taken-at, row-is}
+use Rattle.reach.proofs.Laws.Answers.{gap-answer, reach-answer, row-answer, survey-answer}
+use Rattle.reach.proofs.Laws.Range.{has-gap, in-row, reach-of-runs, searched}
 
 pub span-right : Span-right
 unfolding Span-right
 span-right w n k c wide i j = spanned w n k c wide i j
 
-pub search-range : Search-range
-unfolding Search-range One-fault reach-ticks
-search-range s ts xs ys f k n c ok long i first second j alike some later l =
-    let r = one-fault s ts xs ys f k ok long i first second j alike in
-    let span = spanned (s .width) n k c (limits s ok .width .0) i l in
-    let rows : f + n - f ≡ n = omega arith in (
-      λ before. r .far (f + n) c (omega arith) (omega arith) l (λ v. let g = span .reached (rw rows at v) in let never : ⊥ = omega arith in never),
-      λ after. r .far (f + n) c (omega arith) (omega arith) l (λ v. let g = span .reached (rw rows at v) in let never : ⊥ = omega arith in never),
-      let near = r .near (f + n) c (omega arith) (omega arith) l in omega arith,
-    )
-
 pub row-surveyed : Row-surveyed
 unfolding Row-surveyed
 row-surveyed s l m ts ok i long early = row-law s ok l m ts i long early
 
+pub gap-answered : Gap-answered
+unfolding Gap-answered
+gap-answered s row = gap-answer s row
+
+pub reach-answered : Reach-answered
+unfolding Reach-answered
+reach-answered s b f l n k = (reach-answer s b n k, row-answer s b f l k)
+
+pub survey-answered : Survey-answered
+unfolding Survey-answered
+survey-answered s l m row = survey-answer s l m row
+
+pub b-largest : B-largest
+unfolding B-largest
+b-largest w row most = (not-wider row most w, λ h c j i l e. omega (arith, h, neighbours-apart row w c j i l e))
+
+pub row-reached : Row-reached
+unfolding Row-reached
+row-reached s row f l k ok long early after last-row column =
+    (has-gap s row f l k ok long early after last-row column, in-row s row f l k ok long early after last-row column)
+
+pub search-range : Search-range
+unfolding Search-range
+search-range s ts xs ys f k l runs after last-row = searched runs l after last-row
+
 pub largest-enough : Largest-enough
-unfolding Largest-enough One-fault last-reach reach-ticks apart
-largest-enough s ts xs ys f k l c ok long i first second j alike m n =
-    let r = one-fault s ts xs ys f k ok long i first second j alike in
+unfolding Largest-enough last-reach reach-ticks apart
+largest-enough s ts xs ys f k l c t m n =
+    let r = reach-of-runs t in
     let rs = ts ∷ rows s xs ts in
-    let more : s .rows ≤ length rs = omega (arith, first) in
-    let each = largest-each s 0 0 f (take (s .rows) rs) (omega (arith, taken-length (s .rows) rs more, j)) in
-    let here = rw (taken-at (s .rows) f rs [] j, row-is ts (rows s xs ts) f) at each in
+    let more : s .rows ≤ length rs = omega (arith, t .first) in
+    let each = largest-each s 0 0 f (take (s .rows) rs) (omega (arith, taken-length (s .rows) rs more, t .row)) in
+    let here = rw (taken-at (s .rows) f rs [] (t .row), row-is ts (rows s xs ts) f) at each in
     by-order l f
     (λ q. omega (arith, r .before l c q n))
-    (λ q. let near = r .near l c q (omega (arith, first, m)) n in omega (arith, near, here, q, m, j))
+    (λ q. let near = r .near l c q (omega (arith, t .first, m)) n in omega (arith, near, here, q, m, t .row))
