@@ -46,18 +46,20 @@ pub reach-of-runs : {s : Settings} {ts : List ℕ} {xs ys : List Call} {f k : �
 unfolding One-fault
 reach-of-runs {s} {ts} {xs} {ys} {f} {k} t = one-fault s ts xs ys f k (t .pass) (t .long) (t .column) (t .first) (t .second) (t .row) (t .alike)
 
--- so it is what the answers for row f of the first run cover. That is a row of a wall: the call after it is accepted and marks nothing.
+-- so it is what the answers for row f of the first run cover. The rows before its last are rows of a wall: the call after each is
+-- accepted and marks nothing.
 module _ {s : Settings} {ts : List ℕ} {xs ys : List Call} {f k : ℕ} (t : Two-runs s ts xs ys f k) where
+  taken-enough : (l : ℕ) → l < s .rows → l < length (taken s xs ts)
+  taken-enough l i = omega (arith, run-of s xs ts .as-many, t .first, i)
+
+  first-accepted : (l : ℕ) → l < s .rows → Accepted s (row-at ts (rows s xs ts) l) (call-at (taken s xs ts) l)
+  first-accepted l i = accepted s (row-at ts (rows s xs ts) l) (call-at (taken s xs ts) l) (run-of s xs ts .goes l (taken-enough l i))
+
+  pub first-early : (l : ℕ) → l < s .rows → (c : ℕ) → c < s .width → getD (row-at ts (rows s xs ts) l) c 0 ≤ latest-stamp
+  first-early l i c j = omega (arith, first-accepted l i .time c j (t .alike .first-clean l c (taken-enough l i) j))
+
   abbrev before : List ℕ
   before = row-at ts (rows s xs ts) f
-
-  next-accepted : Accepted s before (call-at (taken s xs ts) f)
-  next-accepted = accepted s before (call-at (taken s xs ts) f) (run-of s xs ts .goes f (omega (arith, run-of s xs ts .as-many, t .first, t .row)))
-
-  before-early : (c : ℕ) → c < s .width → getD before c 0 ≤ latest-stamp
-  before-early c i =
-      let clean = t .alike .first-clean f c (omega (arith, run-of s xs ts .as-many, t .first, t .row)) i in
-      omega (arith, next-accepted .time c i clean)
 
   module _ (l : ℕ) (after : f < l) (last-row : l ≤ s .rows) where
     abbrev B : ℕ
@@ -80,16 +82,17 @@ module _ {s : Settings} {ts : List ℕ} {xs ys : List Call} {f k : ℕ} (t : Two
           has-last = is .4;
           before = λ c i j. r .far l c after few i (λ v. let never : ⊥ = omega (arith, j, span c i .reached v .0) in never);
           after = λ c i j. r .far l c after few i (λ v. let never : ⊥ = omega (arith, j, span c i .reached v .1) in never);
-          near = λ c i. r .near l c after few i;
+          near = λ c i. omega (arith, r .near l c after few i);
         }
 
     pub searched : Searched s before f l k (row-at ts (rows s xs ts) l) (row-at ts (rows s ys ts) l)
     unfolding Gap-is
     searched =
-        let long = next-accepted .lengths .before in
+        let long = first-accepted f (t .row) .lengths .before in
+        let early = first-early f (t .row) in
         record {
           B = B;
-          has-B = has-gap s before f l k (t .pass) long before-early after last-row (t .column) .1;
-          in-row = covers (reach-in-row s B f l k) (in-row s before f l k (t .pass) long before-early after last-row (t .column));
-          by-rows = covers (reach-of s B (l - f) k) (by-rows s before f l k (t .pass) long before-early after last-row (t .column));
+          has-B = has-gap s before f l k (t .pass) long early after last-row (t .column) .1;
+          in-row = covers (reach-in-row s B f l k) (in-row s before f l k (t .pass) long early after last-row (t .column));
+          by-rows = covers (reach-of s B (l - f) k) (by-rows s before f l k (t .pass) long early after last-row (t .column));
         }
