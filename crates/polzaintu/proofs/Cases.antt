@@ -19,7 +19,7 @@ use Rattle.admission.specs.Refusal.{lengths-are, lengths-right, stray-mark, lat
 use Rattle.pulse.specs.Pulse.{arrives, arrival, read-at, stamp, pulse}
 use Rattle.row.specs.Row.{row-of, least-of, most-of, planned, written, number-of as row-number}
 use Rattle.runs.specs.Reach.{apart, widest, gap-below, widest-gap}
-use Rattle.reach.specs.Span.{first-within, last-within}
+use Rattle.reach.specs.Span.{end-within, first-within, last-within}
 use Rattle.reach.specs.Search.{gap-of, reach-ticks, outside-wall, reach-of}
 use Rattle.reach.specs.Answers.{gap-number, reached-number, reached-outside}
 use Rattle.fields.specs.Bytes.{big-endian}
@@ -51,7 +51,7 @@ unfolding Widest-cases Widest wall-settings settings-from settings settings-refu
 widest-cases = ((refl, refl), (refl, refl))
 
 pub range-cases : Range-cases
-unfolding Range-cases Range wall-settings settings-from settings settings-refusal settings-tests first outside drift-cost up reach-number reached-number reached-outside reach-left reach-of outside-wall reach-ticks first-within last-within
+unfolding Range-cases Range wall-settings settings-from settings settings-refusal settings-tests first outside drift-cost up reach-number reached-number reached-outside reach-left reach-of outside-wall reach-ticks end-within first-within last-within
 range-cases = ((refl, refl), (refl, refl), (refl, refl))
 
 pub step-cases : Step-cases

@@ -16,7 +16,7 @@ use Rattle.admission.specs.Refusal.{lengths-are, lengths-right, stray-mark, lat
 use Rattle.pulse.specs.Pulse.{arrives, arrival, read-at, stamp, pulse}
 use Rattle.row.specs.Row.{row-of}
 use Rattle.runs.specs.Reach.{apart, widest, gap-below, widest-gap}
-use Rattle.reach.specs.Span.{first-within, last-within}
+use Rattle.reach.specs.Span.{end-within, first-within, last-within}
 use Rattle.reach.specs.Search.{gap-of, reach-ticks, outside-wall, reach-of, reach-in-row}
 use Rattle.reach.specs.Survey.{with-reach, with-gap, surveyed-of}
 use Rattle.lines.specs.Number.{glyph, decimal-in, decimal}
@@ -34,7 +34,7 @@ use Rattle.range.specs.Read.{read-from, last-number}
 use Rattle.range.specs.Cases.{eight, head, row-1, printed-wall, broken-wall, Printed-cases, Read-cases}
 
 pub printed-cases : Printed-cases
-unfolding Printed-cases eight head row-1 printed-wall broken-wall search-text file-told start-told rows-told with-lines first-marked first-in ascii gap-text reach-texts reach-text line-text numbers-text settings-number start-number row-number row-offset call-in tiles-in marks-in row-size marks-field links-in links-below tile-links drifts-in tile-place late-start times-in settings-in or-else body field-refusal field-tests big-endian refused-line decimal decimal-in glyph surveyed-of with-gap with-reach reach-in-row reach-of outside-wall reach-ticks gap-of first-within last-within widest-gap gap-below widest apart row-of stamp read-at arrival arrives pulse row-refusal row-tests fast crowded late-time stray-mark lengths-right lengths-are call bad-links bad-link bad-value faulty-among mark-bytes marked any-of table-from link link-place place-in links-before predecessors is-predecessor neighbours columns-from are-neighbours tile-pulse tile-P P heard-correction D least-to larger-at stamp-of latest earliest later earlier natural smaller larger first-tick reads settings-refusal settings-tests drift-cost step-of step settings up any-below outside first
+unfolding Printed-cases eight head row-1 printed-wall broken-wall search-text file-told start-told rows-told with-lines first-marked first-in ascii gap-text reach-texts reach-text line-text numbers-text settings-number start-number row-number row-offset call-in tiles-in marks-in row-size marks-field links-in links-below tile-links drifts-in tile-place late-start times-in settings-in or-else body field-refusal field-tests big-endian refused-line decimal decimal-in glyph surveyed-of with-gap with-reach reach-in-row reach-of outside-wall reach-ticks gap-of end-within first-within last-within widest-gap gap-below widest apart row-of stamp read-at arrival arrives pulse row-refusal row-tests fast crowded late-time stray-mark lengths-right lengths-are call bad-links bad-link bad-value faulty-among mark-bytes marked any-of table-from link link-place place-in links-before predecessors is-predecessor neighbours columns-from are-neighbours tile-pulse tile-P P heard-correction D least-to larger-at stamp-of latest earliest later earlier natural smaller larger first-tick reads settings-refusal settings-tests drift-cost step-of step settings up any-below outside first
 printed-cases = (refl, refl, refl, refl)
 
 pub read-cases : Read-cases

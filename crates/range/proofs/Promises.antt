@@ -1,20 +1,14 @@
 -- The proofs of what specs/Promises.antt states. Assumes nothing.
 use mathlib.Core.Path.{_≡_, _∙_, ap}
-use mathlib.Core.Bool.{false}
 use mathlib.Core.List.{List, [], _∷_, _++_}
 use Prim.Native.Nat.{ℕ, _≤_, _<_}
 use lib.ListN.{take}
 use native.Mathlib.Omega.{arith}
-use Rattle.columns.specs.Marks.{marked}
-use Rattle.runs.specs.Run.{call-at}
 use Rattle.runs.specs.Reach.{apart}
-use Rattle.runs.proofs.Laws.Run.{run-of}
 use Rattle.reach.specs.Survey.{largest-of}
 use Rattle.reach.specs.Promises.{Largest-enough}
 use Rattle.reach.proofs.Promises.{largest-enough}
 use Rattle.file.specs.Limits.{settings-of, start-of, calls-of, rows-of}
-use Rattle.file.specs.Promises.{File-is-run}
-use Rattle.file.proofs.Promises.{file-is-run}
 use Rattle.search_lines.specs.Text.{largest-word, line-text}
 use Rattle.search.specs.File.{search-text}
 use Rattle.search.specs.Promises.{gaps-text, Whole-told}
@@ -22,7 +16,7 @@ use Rattle.search.proofs.Promises.{whole-told}
 use Rattle.range.specs.Read.{last-number}
 use Rattle.range.specs.Promises.{Two-files, pulse-of, File-range}
 use Rattle.range.proofs.Laws.Read.{last-largest}
-use Rattle.range.proofs.Laws.Files.{reach-small, first-keeps, runs-of-files}
+use Rattle.range.proofs.Laws.Files.{first-keeps, all-rows, clean, runs-of-files, reach-small}
 
 module _ (asked a b : List ℕ) (f k : ℕ) (t : Two-files a b f k) where
   -- what is printed of the first, and the number that it ends with
@@ -32,26 +26,18 @@ module _ (asked a b : List ℕ) (f k : ℕ) (t : Two-files a b f k) where
   abbrev lines : List ℕ
   lines = gaps-text (settings-of a) asked 0 (take (settings-of a .rows) (start-of a ∷ rows-of a))
 
-  clean : (l c : ℕ) → l < settings-of a .rows → c < settings-of a .width → marked (call-at (calls-of a) l .marks) c ≡ false
-  unfolding File-is-run rows-of
-  clean l c i j =
-      let is-run = file-is-run a (first-keeps t) in
-      let as-many = rw (is-run .0) at (run-of (settings-of a) (calls-of a) (start-of a) .as-many) in
-      t .alike .first-clean l c (omega (arith, i, as-many, is-run .1)) j
-
   told : search-text asked a ≡ lines ++ line-text largest-word (largest ∷ [])
   unfolding Whole-told
-  told = whole-told asked a (first-keeps t) clean
+  told = whole-told asked a (first-keeps t) (clean t)
 
   read : last-number (search-text asked a) ≡ largest
-  unfolding rows-of
-  read = ap last-number told ∙ last-largest lines largest (omega (arith, reach-small (runs-of-files t)))
+  read = ap last-number told ∙ last-largest lines largest (omega (arith, reach-small t))
 
   enough : (l c : ℕ) → l ≤ settings-of a .rows → c < settings-of a .width → apart (pulse-of a l c) (pulse-of b l c) ≤ last-number (search-text asked a)
   unfolding Largest-enough pulse-of rows-of
   enough l c i j =
       rw (read, ← t .settings, ← t .start)
-      (largest-enough (settings-of a) (start-of a) (calls-of a) (calls-of b) f k l c (runs-of-files t) i j)
+      (largest-enough (settings-of a) (start-of a) (calls-of a) (calls-of b) f k l c (runs-of-files t) (all-rows t) i j)
 
 pub file-range : File-range
 unfolding File-range

@@ -5,7 +5,7 @@ use Rattle.settings.specs.Rounding.{up}
 use Rattle.settings.specs.Settings.{settings, drift-cost, settings-tests, settings-refusal}
 use Rattle.columns.specs.Columns.{are-neighbours, columns-from, neighbours}
 use Rattle.runs.specs.Reach.{apart, widest, gap-below, widest-gap}
-use Rattle.reach.specs.Span.{first-within, last-within}
+use Rattle.reach.specs.Span.{end-within, first-within, last-within}
 use Rattle.reach.specs.Search.{gap-of, reach-ticks, outside-wall, reach-of, reach-in-row}
 use Rattle.reach.specs.Survey.{with-reach, with-gap, surveyed-of, last-reach, largest-of}
 use Rattle.reach.specs.Answers.{gap-number, gap-B, reached-number, reached-outside, reached-ticks, reached-first, reached-last, surveyed-number, surveyed-outside, surveyed-B, surveyed-largest, Gap-is, Reached-is, Surveyed-is}
@@ -33,7 +33,7 @@ gap-cases = (
 )
 
 pub reach-cases : Reach-cases
-unfolding Reach-cases Reaches Reached-is reached-number reached-outside reached-ticks reached-first reached-last reach-of outside-wall reach-ticks first-within last-within wall settings settings-refusal settings-tests first outside drift-cost up
+unfolding Reach-cases Reaches Reached-is reached-number reached-outside reached-ticks reached-first reached-last reach-of outside-wall reach-ticks end-within first-within last-within wall settings settings-refusal settings-tests first outside drift-cost up
 reach-cases = (
   (refl, refl, refl, refl, refl),
   (refl, refl, refl, refl, refl),
@@ -48,7 +48,7 @@ reach-cases = (
 )
 
 pub outside-cases : Outside-cases
-unfolding Outside-cases Outside reach-in-row Reached-is reached-number reached-outside reached-ticks reached-first reached-last reach-of outside-wall reach-ticks first-within last-within wall settings settings-refusal settings-tests first outside drift-cost up
+unfolding Outside-cases Outside reach-in-row Reached-is reached-number reached-outside reached-ticks reached-first reached-last reach-of outside-wall reach-ticks end-within first-within last-within wall settings settings-refusal settings-tests first outside drift-cost up
 outside-cases = (
   (refl, refl, refl, refl, refl),
   (refl, refl, refl, refl, refl),
@@ -65,7 +65,7 @@ outside-cases = (
 )
 
 pub survey-cases : Survey-cases
-unfolding Survey-cases Surveyed-is surveyed-number surveyed-outside surveyed-B surveyed-largest surveyed-of with-gap with-reach gap-of wall row-80 row-100 reach-of outside-wall reach-ticks first-within last-within widest-gap gap-below widest apart neighbours columns-from are-neighbours settings settings-refusal settings-tests first outside drift-cost up
+unfolding Survey-cases Surveyed-is surveyed-number surveyed-outside surveyed-B surveyed-largest surveyed-of with-gap with-reach gap-of wall row-80 row-100 reach-of outside-wall reach-ticks end-within first-within last-within widest-gap gap-below widest apart neighbours columns-from are-neighbours settings settings-refusal settings-tests first outside drift-cost up
 survey-cases = (
   (refl, refl, refl, refl),
   (refl, refl, refl, refl),

@@ -1,11 +1,13 @@
 -- The proofs of what specs/Span.antt, specs/Survey.antt, specs/Answers.antt and specs/Promises.antt state. Assumes nothing.
+use mathlib.Core.Path.{_≡_}
 use mathlib.Core.List.{[], _∷_}
-use Prim.Native.Nat.{_≤_}
+use Prim.Native.Nat.{ℕ, _≤_, _<_}
 use lib.ListN.{length, take}
 use native.Mathlib.Omega.{arith}
 use Rattle.settings.proofs.Laws.Cases.{by-order}
 use Rattle.runs.specs.Run.{rows}
 use Rattle.runs.specs.Reach.{apart}
+use Rattle.runs.proofs.Laws.Run.{run-of}
 use Rattle.runs.proofs.Laws.Reach.{neighbours-apart}
 use Rattle.reach.specs.Span.{Span-right}
 use Rattle.reach.specs.Search.{reach-ticks}
@@ -49,16 +51,22 @@ row-reached s row f l k ok long early after last-row column =
 
 pub search-range : Search-range
 unfolding Search-range
-search-range s ts xs ys f k l runs after last-row = searched runs l after last-row
+search-range s ts xs ys f k l runs all after last-row = searched s ts xs ys f k runs all l after last-row
+
+-- two times that are the same are not apart
+apart-none : (a b : ℕ) → a ≡ b → apart a b ≡ 0
+unfolding apart
+apart-none a b e = omega arith
 
 pub largest-enough : Largest-enough
-unfolding Largest-enough last-reach reach-ticks apart
-largest-enough s ts xs ys f k l c t m n =
-    let r = reach-of-runs t in
+unfolding Largest-enough last-reach reach-ticks
+largest-enough s ts xs ys f k l c runs all m n =
+    let r = reach-of-runs s ts xs ys f k runs all in
     let rs = ts ∷ rows s xs ts in
-    let more : s .rows ≤ length rs = omega (arith, t .first) in
-    let each = largest-each s 0 0 f (take (s .rows) rs) (omega (arith, taken-length (s .rows) rs more, t .row)) in
-    let here = rw (taken-at (s .rows) f rs [] (t .row), row-is ts (rows s xs ts) f) at each in
+    let more : s .rows ≤ length rs = omega (arith, all) in
+    let in-wall : f < s .rows = omega (arith, runs .row, run-of s xs ts .as-many, all) in
+    let each = largest-each s 0 0 f (take (s .rows) rs) (omega (arith, taken-length (s .rows) rs more, in-wall)) in
+    let here = rw (taken-at (s .rows) f rs [] in-wall, row-is ts (rows s xs ts) f) at each in
     by-order l f
-    (λ q. omega (arith, r .before l c q n))
-    (λ q. let near = r .near l c q (omega (arith, t .first, m)) n in omega (arith, near, here, q, m, t .row))
+    (λ q. omega (arith, apart-none _ _ (r .before l c q n)))
+    (λ q. omega (arith, r .near l c q (omega (arith, all, m)) n, here, m))

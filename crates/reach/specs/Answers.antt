@@ -5,14 +5,15 @@ use mathlib.Core.Bool.{Bool, true, false}
 use mathlib.Core.List.{List}
 use mathlib.Core.Logic.{_⊎_}
 use mathlib.Core.Option.{Option, none, some}
-use Prim.Native.Nat.{ℕ, _+_, _-_, _*_, _≤_, _<_, max}
+use Prim.Native.Nat.{ℕ, _-_, _≤_, _<_, max}
 use lib.ListN.{length}
 use Rattle.settings.specs.Settings.{settings-refusal}
 use Rattle.settings.specs.declared.Settings.{Settings}
+use Rattle.rule.specs.Stamp.{latest-stamp}
 use Rattle.runs.specs.Reach.{widest-gap}
 use Rattle.reach.specs.Span.{first-within, last-within}
-use Rattle.reach.specs.Search.{gap-of, reach-of, reach-in-row}
-use Rattle.reach.specs.Survey.{surveyed-of}
+use Rattle.reach.specs.Search.{gap-of, reach-ticks, reach-of, reach-in-row}
+use Rattle.reach.specs.Survey.{surveyed-of, last-reach}
 use Rattle.reach.specs.declared.Gap.{Gap}
 use Rattle.reach.specs.declared.Gap.the-variants as gap
 use Rattle.reach.specs.declared.Reached.{Reached}
@@ -98,14 +99,14 @@ unfoldable pub Gap-answered : Type 0
 Gap-answered = (s : Settings) (row : List ℕ) → Gap-answer s row
 
 -- n rows later, of a tile of column k, where B is b: 1 to 9; outside where n is not 1 to R, k is no column, or b is over 2^41 - 1;
--- otherwise "2B + 8h + (L - f - 1)" ticks, and the columns within n hops (`Span-right`)
+-- otherwise the ticks of demand 3, and the columns within n hops (`Span-right`)
 pub record Reach-answer (s : Settings) (b n k : ℕ) : Type 0 where
   pub settings : (settings-refusal s ≡ 0 → ⊥) → Reached-is (reach-of s b n k) (settings-refusal s) false none none none
   pub no-row : settings-refusal s ≡ 0 → (n ≡ 0) ⊎ (s .rows < n) → Reached-is (reach-of s b n k) 0 true none none none
   pub no-column : settings-refusal s ≡ 0 → s .width ≤ k → Reached-is (reach-of s b n k) 0 true none none none
-  pub no-gap : settings-refusal s ≡ 0 → 2199023255551 < b → Reached-is (reach-of s b n k) 0 true none none none
-  pub found : settings-refusal s ≡ 0 → 0 < n → n ≤ s .rows → k < s .width → b ≤ 2199023255551 →
-      Reached-is (reach-of s b n k) 0 false (some (2 * b + 8 * s .unit + (n - 1))) (some (first-within (s .width) k n)) (some (last-within (s .width) k n))
+  pub no-gap : settings-refusal s ≡ 0 → latest-stamp < b → Reached-is (reach-of s b n k) 0 true none none none
+  pub found : settings-refusal s ≡ 0 → 0 < n → n ≤ s .rows → k < s .width → b ≤ latest-stamp →
+      Reached-is (reach-of s b n k) 0 false (some (reach-ticks s b n)) (some (first-within (s .width) k n)) (some (last-within (s .width) k n))
 
 -- of rows f and L the same, L - f rows later; outside where L is no later row of the wall
 pub record Row-answer (s : Settings) (b f l k : ℕ) : Type 0 where
@@ -122,11 +123,10 @@ pub record Survey-answer (s : Settings) (l m : ℕ) (row : List ℕ) : Type 0 wh
   pub settings : (settings-refusal s ≡ 0 → ⊥) → Surveyed-is (surveyed-of s l m row) (settings-refusal s) false none none
   pub other-length : settings-refusal s ≡ 0 → (length row ≡ s .width → ⊥) → Surveyed-is (surveyed-of s l m row) 21 false none none
   pub no-row : settings-refusal s ≡ 0 → length row ≡ s .width → s .rows ≤ l → Surveyed-is (surveyed-of s l m row) 0 true none none
-  pub no-gap : settings-refusal s ≡ 0 → length row ≡ s .width → 2199023255551 < widest-gap (s .width) row →
+  pub no-gap : settings-refusal s ≡ 0 → length row ≡ s .width → latest-stamp < widest-gap (s .width) row →
       Surveyed-is (surveyed-of s l m row) 0 true none none
-  pub found : settings-refusal s ≡ 0 → length row ≡ s .width → l < s .rows → widest-gap (s .width) row ≤ 2199023255551 →
-      let b = widest-gap (s .width) row in
-      Surveyed-is (surveyed-of s l m row) 0 false (some b) (some (max m (2 * b + 8 * s .unit + (s .rows - l - 1))))
+  pub found : settings-refusal s ≡ 0 → length row ≡ s .width → l < s .rows → widest-gap (s .width) row ≤ latest-stamp →
+      Surveyed-is (surveyed-of s l m row) 0 false (some (widest-gap (s .width) row)) (some (max m (last-reach s l row)))
 
 unfoldable pub Survey-answered : Type 0
 Survey-answered = (s : Settings) (l m : ℕ) (row : List ℕ) → Survey-answer s l m row

@@ -1,3 +1,4 @@
+pub mod Runs
 pub mod Span
 pub mod Search
 pub mod Survey

@@ -13,7 +13,8 @@ use Rattle.columns.specs.Columns.{are-neighbours}
 use Rattle.rule.specs.Stamp.{latest-stamp}
 use Rattle.admission.specs.Call.{Call}
 use Rattle.runs.specs.Run.{taken, rows, row-at}
-use Rattle.runs.specs.Reach.{Alike, apart, widest-gap}
+use Rattle.runs.specs.Reach.{apart, widest-gap}
+use Rattle.reach.specs.Runs.{Two-runs}
 use Rattle.reach.specs.Span.{first-within, last-within}
 use Rattle.reach.specs.Search.{gap-of, reach-ticks, reach-of, reach-in-row}
 use Rattle.reach.specs.Survey.{largest-of}
@@ -35,16 +36,6 @@ Row-reached =
     let b = widest-gap (s .width) row in
     Gap-is (gap-of s row) 0 (some b)
     × Reached-is (reach-in-row s b f l k) 0 false (some (reach-ticks s b (l - f))) (some (first-within (s .width) k (l - f))) (some (last-within (s .width) k (l - f)))
-
--- the two runs of demand 3: the first without faults, the second with one, of column k in row f
-pub record Two-runs (s : Settings) (ts : List ℕ) (xs ys : List Call) (f k : ℕ) : Type 0 where
-  pub pass : settings-refusal s ≡ 0
-  pub long : length ts ≡ s .width
-  pub column : k < s .width
-  pub first : length (rows s xs ts) ≡ s .rows
-  pub second : length (rows s ys ts) ≡ s .rows
-  pub row : f < s .rows
-  pub alike : Alike (s .width) f k (taken s xs ts) (taken s ys ts)
 
 -- what an answer says of two rows: they are the same before its first column and after its last, and differ by at most its ticks.
 -- It has these values, so it is neither outside nor turned away.
@@ -69,13 +60,15 @@ pub record Searched (s : Settings) (row : List ℕ) (f l k : ℕ) (here there : 
 
 unfoldable pub Search-range : Type 0
 Search-range =
-    (s : Settings) (ts : List ℕ) (xs ys : List Call) (f k l : ℕ) → Two-runs s ts xs ys f k → f < l → l ≤ s .rows →
+    (s : Settings) (ts : List ℕ) (xs ys : List Call) (f k l : ℕ) → Two-runs (s .width) f k (taken s xs ts) (taken s ys ts) →
+    length (rows s xs ts) ≡ s .rows → f < l → l ≤ s .rows →
     Searched s (row-at ts (rows s xs ts) f) f l k (row-at ts (rows s xs ts) l) (row-at ts (rows s ys ts) l)
 
 -- the number that a search range is set to: no pulse of any row differs by more than the largest reach over rows 0 to R - 1 of the run
 -- without faults
 unfoldable pub Largest-enough : Type 0
 Largest-enough =
-    (s : Settings) (ts : List ℕ) (xs ys : List Call) (f k l c : ℕ) → Two-runs s ts xs ys f k → l ≤ s .rows → c < s .width →
+    (s : Settings) (ts : List ℕ) (xs ys : List Call) (f k l c : ℕ) → Two-runs (s .width) f k (taken s xs ts) (taken s ys ts) →
+    length (rows s xs ts) ≡ s .rows → l ≤ s .rows → c < s .width →
     apart (getD (row-at ts (rows s xs ts) l) c 0) (getD (row-at ts (rows s ys ts) l) c 0)
     ≤ largest-of s 0 0 (take (s .rows) (ts ∷ rows s xs ts))

@@ -6,7 +6,7 @@ use Rattle.settings.specs.Settings.{settings, drift-cost, settings-tests, setti
 use Rattle.columns.specs.Columns.{are-neighbours, columns-from, neighbours}
 use Rattle.columns.specs.Marks.{marked}
 use Rattle.runs.specs.Reach.{apart, widest, gap-below, widest-gap}
-use Rattle.reach.specs.Span.{first-within, last-within}
+use Rattle.reach.specs.Span.{end-within, first-within, last-within}
 use Rattle.reach.specs.Search.{gap-of, reach-ticks, outside-wall, reach-of, reach-in-row}
 use Rattle.reach.specs.Survey.{with-reach, with-gap, surveyed-of}
 use Rattle.lines.specs.Number.{glyph, decimal-in, decimal}
@@ -26,7 +26,7 @@ unfolding Marked-cases first-marked first-in marked
 marked-cases = (refl, refl, refl, refl)
 
 pub row-cases : Row-cases
-unfolding Row-cases at-row row-0 place settings says row-says survey-says first-marked first-in marked surveyed-of with-gap with-reach gap-of widest-gap gap-below widest apart neighbours columns-from are-neighbours settings-refusal settings-tests first outside drift-cost up reach-in-row reach-of outside-wall reach-ticks first-within last-within gap-text reach-texts reach-text line-text numbers-text decimal decimal-in glyph ascii
+unfolding Row-cases at-row row-0 place settings says row-says survey-says first-marked first-in marked surveyed-of with-gap with-reach gap-of widest-gap gap-below widest apart neighbours columns-from are-neighbours settings-refusal settings-tests first outside drift-cost up reach-in-row reach-of outside-wall reach-ticks end-within first-within last-within gap-text reach-texts reach-text line-text numbers-text decimal decimal-in glyph ascii
 row-cases = (refl, refl, refl)
 
 pub end-cases : End-cases

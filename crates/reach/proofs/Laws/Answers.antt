@@ -15,7 +15,7 @@ use Rattle.rule.specs.Stamp.{latest-stamp}
 use Rattle.runs.specs.Reach.{widest-gap}
 use Rattle.reach.specs.Span.{first-within, last-within}
 use Rattle.reach.specs.Search.{gap-of, reach-ticks, outside-wall, reach-of, reach-in-row}
-use Rattle.reach.specs.Survey.{with-reach, with-gap, surveyed-of}
+use Rattle.reach.specs.Survey.{with-reach, with-gap, surveyed-of, last-reach}
 use Rattle.reach.specs.Answers.{gap-number, gap-B, reached-number, reached-outside, reached-ticks, reached-first, reached-last, surveyed-number, surveyed-outside, surveyed-B, surveyed-largest, Gap-is, Reached-is, Surveyed-is, Gap-answer, Reach-answer, Row-answer, Survey-answer}
 use Rattle.reach.specs.declared.Gap.the-variants as gap
 use Rattle.reach.specs.declared.Reached.the-variants as reached
@@ -75,7 +75,7 @@ module _ (s : Settings) (b n k : ℕ) where
       rw (eq-eqb (settings-refusal s) 0 ok, inside)
 
   pub reach-answer : Reach-answer s b n k
-  unfolding Reached-is reached-number reached-outside reached-ticks reached-first reached-last reach-ticks
+  unfolding Reached-is reached-number reached-outside reached-ticks reached-first reached-last
   reach-answer =
       record {
         settings = λ m. rw (reach-refused m) (refl, refl, refl, refl, refl);
@@ -115,7 +115,7 @@ module _ (s : Settings) (l m : ℕ) (row : List ℕ) where
   b = widest-gap (s .width) row
 
   pub survey-answer : Survey-answer s l m row
-  unfolding Surveyed-is surveyed-number surveyed-outside surveyed-B surveyed-largest surveyed-of with-gap with-reach reach-ticks
+  unfolding Surveyed-is surveyed-number surveyed-outside surveyed-B surveyed-largest surveyed-of with-gap with-reach last-reach
   survey-answer =
       record {
         settings = λ n. rw (gap-refused s row n) (refl, refl, refl, refl);

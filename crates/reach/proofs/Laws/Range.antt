@@ -19,7 +19,8 @@ use Rattle.runs.proofs.Laws.Run.{run-of}
 use Rattle.reach.specs.Span.{first-within, last-within, Spanned}
 use Rattle.reach.specs.Search.{gap-of, reach-ticks, reach-of, reach-in-row}
 use Rattle.reach.specs.Answers.{Gap-is, Reached-is}
-use Rattle.reach.specs.Promises.{Two-runs, Covers, Searched}
+use Rattle.reach.specs.Runs.{Two-runs}
+use Rattle.reach.specs.Promises.{Covers, Searched}
 use Rattle.reach.specs.declared.Reached.{Reached}
 use Rattle.reach.proofs.Laws.Gap.{gap-small}
 use Rattle.reach.proofs.Laws.Span.{spanned}
@@ -35,33 +36,41 @@ module _ (s : Settings) (row : List ℕ) (f l k : ℕ) (ok : settings-refusal s 
   has-gap = gap-answer s row .found ok long
 
   pub by-rows : Reached-is (reach-of s b (l - f) k) 0 false (some (reach-ticks s b (l - f))) (some (first-within (s .width) k (l - f))) (some (last-within (s .width) k (l - f)))
-  unfolding reach-ticks
   by-rows = reach-answer s b (l - f) k .found ok (omega (arith, after)) (omega (arith, last-row)) column (gap-small (s .width) row early)
 
   pub in-row : Reached-is (reach-in-row s b f l k) 0 false (some (reach-ticks s b (l - f))) (some (first-within (s .width) k (l - f))) (some (last-within (s .width) k (l - f)))
   in-row = rw (row-answer s b f l k .later ok after last-row) by-rows
 
--- the words of demand 3, of two runs
-pub reach-of-runs : {s : Settings} {ts : List ℕ} {xs ys : List Call} {f k : ℕ} → Two-runs s ts xs ys f k → Reach s ts f k (rows s xs ts) (rows s ys ts)
-unfolding One-fault
-reach-of-runs {s} {ts} {xs} {ys} {f} {k} t = one-fault s ts xs ys f k (t .pass) (t .long) (t .column) (t .first) (t .second) (t .row) (t .alike)
+-- two runs: the rows that calls come after are rows of a wall, since each call is accepted, and in the first marks nothing
+module _ (s : Settings) (ts : List ℕ) (xs ys : List Call) (f k : ℕ) (t : Two-runs (s .width) f k (taken s xs ts) (taken s ys ts)) where
+  first-accepted : (l : ℕ) → l < length (taken s xs ts) → Accepted s (row-at ts (rows s xs ts) l) (call-at (taken s xs ts) l)
+  first-accepted l i = accepted s (row-at ts (rows s xs ts) l) (call-at (taken s xs ts) l) (run-of s xs ts .goes l i)
 
--- so it is what the answers for row f of the first run cover. The rows before its last are rows of a wall: the call after each is
--- accepted and marks nothing.
-module _ {s : Settings} {ts : List ℕ} {xs ys : List Call} {f k : ℕ} (t : Two-runs s ts xs ys f k) where
-  taken-enough : (l : ℕ) → l < s .rows → l < length (taken s xs ts)
-  taken-enough l i = omega (arith, run-of s xs ts .as-many, t .first, i)
+  pub first-early : (l : ℕ) → l < length (rows s xs ts) → (c : ℕ) → c < s .width → getD (row-at ts (rows s xs ts) l) c 0 ≤ latest-stamp
+  first-early l i c j =
+      let called : l < length (taken s xs ts) = omega (arith, i, run-of s xs ts .as-many) in
+      omega (arith, first-accepted l called .time c j (t .alike .first-clean l c called j))
 
-  first-accepted : (l : ℕ) → l < s .rows → Accepted s (row-at ts (rows s xs ts) l) (call-at (taken s xs ts) l)
-  first-accepted l i = accepted s (row-at ts (rows s xs ts) l) (call-at (taken s xs ts) l) (run-of s xs ts .goes l (taken-enough l i))
+  pub checked : settings-refusal s ≡ 0
+  checked = first-accepted f (t .row) .settings
 
-  pub first-early : (l : ℕ) → l < s .rows → (c : ℕ) → c < s .width → getD (row-at ts (rows s xs ts) l) c 0 ≤ latest-stamp
-  first-early l i c j = omega (arith, first-accepted l i .time c j (t .alike .first-clean l c (taken-enough l i) j))
+  row-long : length (row-at ts (rows s xs ts) f) ≡ s .width
+  row-long = first-accepted f (t .row) .lengths .before
 
+  -- the words of demand 3
+  pub reach-of-runs : length (rows s xs ts) ≡ s .rows → Reach s ts f k (rows s xs ts) (rows s ys ts)
+  unfolding One-fault row-at
+  reach-of-runs all =
+      let first = run-of s xs ts .as-many in
+      let second = run-of s ys ts .as-many in
+      one-fault s ts xs ys f k checked (first-accepted 0 (omega (arith, t .row)) .lengths .before) (t .column) all
+      (omega (arith, first, second, t .alike .as-many, all)) (omega (arith, first, all, t .row)) (t .alike)
+
+  -- so they are what the answers for row f of the first run cover
   abbrev before : List ℕ
   before = row-at ts (rows s xs ts) f
 
-  module _ (l : ℕ) (after : f < l) (last-row : l ≤ s .rows) where
+  module _ (all : length (rows s xs ts) ≡ s .rows) (l : ℕ) (after : f < l) (last-row : l ≤ s .rows) where
     abbrev B : ℕ
     B = widest-gap (s .width) before
 
@@ -70,9 +79,9 @@ module _ {s : Settings} {ts : List ℕ} {xs ys : List Call} {f k : ℕ} (t : Two
         Covers answer (s .width) (row-at ts (rows s xs ts) l) (row-at ts (rows s ys ts) l)
     unfolding Reached-is reach-ticks
     covers answer is =
-        let r = reach-of-runs t in
-        let span : (c : ℕ) → c < s .width → Spanned (s .width) (l - f) k c = λ c i. spanned (s .width) (l - f) k c (limits s (t .pass) .width .0) (t .column) i in
-        let few : l ≤ length (rows s xs ts) = omega (arith, t .first, last-row) in
+        let r = reach-of-runs all in
+        let span : (c : ℕ) → c < s .width → Spanned (s .width) (l - f) k c = λ c i. spanned (s .width) (l - f) k c (limits s checked .width .0) (t .column) i in
+        let few : l ≤ length (rows s xs ts) = omega (arith, all, last-row) in
         record {
           ticks = reach-ticks s B (l - f);
           first = first-within (s .width) k (l - f);
@@ -88,11 +97,10 @@ module _ {s : Settings} {ts : List ℕ} {xs ys : List Call} {f k : ℕ} (t : Two
     pub searched : Searched s before f l k (row-at ts (rows s xs ts) l) (row-at ts (rows s ys ts) l)
     unfolding Gap-is
     searched =
-        let long = first-accepted f (t .row) .lengths .before in
-        let early = first-early f (t .row) in
+        let early = first-early f (omega (arith, run-of s xs ts .as-many, t .row)) in
         record {
           B = B;
-          has-B = has-gap s before f l k (t .pass) long early after last-row (t .column) .1;
-          in-row = covers (reach-in-row s B f l k) (in-row s before f l k (t .pass) long early after last-row (t .column));
-          by-rows = covers (reach-of s B (l - f) k) (by-rows s before f l k (t .pass) long early after last-row (t .column));
+          has-B = has-gap s before f l k checked row-long early after last-row (t .column) .1;
+          in-row = covers (reach-in-row s B f l k) (in-row s before f l k checked row-long early after last-row (t .column));
+          by-rows = covers (reach-of s B (l - f) k) (by-rows s before f l k checked row-long early after last-row (t .column));
         }
