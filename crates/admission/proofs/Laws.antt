@@ -2,3 +2,5 @@
 pub mod Quiet
 pub mod Lengths
 pub mod Accepted
+pub mod Hears
+pub mod Limits

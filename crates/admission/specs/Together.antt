@@ -1,4 +1,4 @@
--- What the code finds of all times together. Assumes nothing.
+-- The code's own: what it finds of all times together. Assumes nothing.
 use mathlib.Core.List.{List}
 use Prim.Native.Nat.{ℕ, _≤_, _<_}
 use lib.ListN.{length, getD}

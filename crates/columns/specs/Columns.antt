@@ -12,21 +12,23 @@ are-neighbours w a b =
     (eqb (suc a) b || eqb (suc b) a)
     || (((eqb a 0 && eqb b 2) || (eqb a 2 && eqb b 0)) || ((eqb (a + 3) w && eqb (suc b) w) || (eqb (suc a) w && eqb (b + 3) w)))
 
+-- "A hop is a step to a neighbour." A way of n hops from a column to another
+pub data Way (w : ℕ) : (n a b : ℕ) → Type 0 where
+  stay : {a : ℕ} → Way w 0 a a
+  hop : {n a b c : ℕ} → c < w → are-neighbours w c b ≡ true → Way w n a b → Way w (suc n) a c
+
+-- at most n hops apart: "Two columns are as many hops apart as the shortest way between them has."
+pub record Hops-within (w n a b : ℕ) : Type 0 where
+  pub hops : ℕ
+  pub few : hops ≤ n
+  pub way : Way w hops a b
+
 -- the columns from c on, n of them, for which f holds, rising
 unfoldable pub columns-from : (n c : ℕ) → (ℕ → Bool) → List ℕ
 columns-from zero c f = []
 columns-from (suc n) c f = cond (f c) (c ∷ columns-from n (suc c) f) (columns-from n (suc c) f)
 
--- f holds of some number in a list
-unfoldable pub any-of : List ℕ → (ℕ → Bool) → Bool
-any-of [] f = false
-any-of (k ∷ ks) f = f k || any-of ks f
-
--- what f gives for each column from c on, n of them
-unfoldable pub table-from : (n c : ℕ) → (ℕ → ℕ) → List ℕ
-table-from zero c f = []
-table-from (suc n) c f = f c ∷ table-from n (suc c) f
-
+-- the neighbours of column c, rising
 unfoldable pub neighbours : (w c : ℕ) → List ℕ
 neighbours w c = columns-from w 0 (λ k. are-neighbours w c k)
 
@@ -34,6 +36,7 @@ neighbours w c = columns-from w 0 (λ k. are-neighbours w c k)
 unfoldable pub is-predecessor : (w c k : ℕ) → Bool
 is-predecessor w c k = eqb k c || are-neighbours w c k
 
+-- the predecessors of tile c, rising
 unfoldable pub predecessors : (w c : ℕ) → List ℕ
 predecessors w c = columns-from w 0 (λ k. is-predecessor w c k)
 
@@ -55,13 +58,12 @@ link-place w c k = links-before w c + place-in k (predecessors w c)
 unfoldable pub link : (w : ℕ) → (links : List ℕ) → (tile sender : ℕ) → ℕ
 link w ls c k = getD ls (link-place w c k) 0
 
--- "A hop is a step to a neighbour." A way of n hops from a column to another
-pub data Way (w : ℕ) : (n a b : ℕ) → Type 0 where
-  stay : {a : ℕ} → Way w 0 a a
-  hop : {n a b c : ℕ} → c < w → are-neighbours w c b ≡ true → Way w n a b → Way w (suc n) a c
+-- f holds of some number in a list
+unfoldable pub any-of : List ℕ → (ℕ → Bool) → Bool
+any-of [] f = false
+any-of (k ∷ ks) f = f k || any-of ks f
 
--- at most n hops apart: "Two columns are as many hops apart as the shortest way between them has."
-pub record Within (w n a b : ℕ) : Type 0 where
-  pub hops : ℕ
-  pub few : hops ≤ n
-  pub way : Way w hops a b
+-- what f gives for each column from c on, n of them
+unfoldable pub table-from : (n c : ℕ) → (ℕ → ℕ) → List ℕ
+table-from zero c f = []
+table-from (suc n) c f = f c ∷ table-from n (suc c) f

@@ -1,5 +1,5 @@
--- The predecessors of a tile as the code finds them: a window of three or four adjacent columns.
--- `predecessors-window` of proofs/Laws/Columns.antt shows them equal. Assumes nothing.
+-- The code's own: the predecessors of a tile as a window of three or four adjacent columns, and where a tile's links start.
+-- `Window-right` and `Links-start` say that they are those of Columns.antt. Assumes nothing.
 use mathlib.Core.Path.{_≡_}
 use mathlib.Core.Bool.{Bool, cond, _||_}
 use mathlib.Core.List.{List, [], _∷_}

@@ -6,7 +6,8 @@ ghost use Prim.Native.Nat.{_≤_, _<_, _/_};
 ghost use lib.ListN.{length};
 ghost use Rattle.columns.specs.Columns.{links-before};
 ghost use Rattle.columns.specs.Window.{first-sender, four-senders};
-ghost use Rattle.columns.specs.Marks.{Quiet, Plain, marked, mark-bytes};
+ghost use Rattle.columns.specs.Marks.{marked, mark-bytes};
+ghost use Rattle.columns.specs.Plain.{Quiet, Plain};
 
 // The first predecessor's column.
 pub fn first_sender(width: usize, c: usize) -> usize

@@ -28,8 +28,11 @@ unfoldable pub times-in : (w : ℕ) → (body : List ℕ) → List ℕ
 times-in w bs = table-from w 0 (λ c. big-endian 8 bs (8 * c))
 
 -- "45 a row 0 time over 2^39 - 1"
+abbrev pub latest-start : ℕ
+latest-start = 549755813887
+
 unfoldable pub late-start : (times : List ℕ) → (c : ℕ) → Bool
-late-start ts c = ltb 549755813887 (getD ts c 0)
+late-start ts c = ltb latest-start (getD ts c 0)
 
 -- "tag 4, 26W + 16 bytes: per tile a 2-byte drift and then 8-byte link values, senders ascending"
 abbrev pub tiles-size : (w : ℕ) → ℕ

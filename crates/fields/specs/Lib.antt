@@ -1,2 +1,4 @@
 pub mod Bytes
 pub mod Field
+pub mod Limits
+pub mod Cases

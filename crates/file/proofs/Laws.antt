@@ -6,5 +6,6 @@ pub mod Rows
 pub mod Numbers
 pub mod Seams
 pub mod Calls
+pub mod Takes
 pub mod Reached
 pub mod Stands

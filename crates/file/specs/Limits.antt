@@ -1,19 +1,15 @@
--- A wall file that keeps every limit, and the run that it describes. Assumes nothing.
-use mathlib.Core.Path.{_≡_}
-use mathlib.Core.Bool.{false}
+-- A wall file that keeps every limit, in numbers and inequalities alone, and the run that it describes. Assumes nothing.
 use mathlib.Core.List.{List, [], _∷_, _++_}
-use Prim.Native.Nat.{ℕ, zero, suc, _+_, _*_}
-use lib.ListN.{drop}
-use Rattle.settings.specs.Refusal.{any-below}
-use Rattle.settings.specs.Settings.{settings-refusal}
+use Prim.Native.Nat.{ℕ, zero, suc, _+_, _*_, _/_, _≤_, _<_}
+use lib.ListN.{getD, drop}
+use Rattle.settings.specs.Limits.{Limits}
 use Rattle.settings.specs.declared.Settings.{Settings}
 use Rattle.admission.specs.Call.{Call}
-use Rattle.columns.specs.Marks.{mark-bytes}
-use Rattle.admission.specs.Refusal.{stray-mark, crowded, fast}
-use Rattle.links.specs.Links.{bad-links}
+use Rattle.admission.specs.Limits.{Tile-limits}
 use Rattle.runs.specs.Run.{rows}
-use Rattle.fields.specs.Field.{field-refusal, body}
-use Rattle.contents.specs.Contents.{settings-size, settings-in, start-size, times-in, late-start, tiles-size, marks-field, row-size, call-in}
+use Rattle.fields.specs.Field.{body}
+use Rattle.fields.specs.Limits.{Field-there}
+use Rattle.contents.specs.Contents.{settings-size, settings-in, start-size, times-in, row-size, call-in}
 use Rattle.steps.specs.Shown.{Shown, row-shown, no-marks}
 
 -- the settings, the row 0 times and the row calls that a file describes
@@ -42,26 +38,25 @@ calls-of bs = calls-in (settings-of bs .width) (settings-of bs .rows) (after-sta
 unfoldable pub rows-of : (file : List ℕ) → List (List ℕ)
 rows-of bs = rows (settings-of bs) (calls-of bs) (start-of bs)
 
--- the limits of a row: its fields are there, and none of 22, 24, 25, 26 applies
+-- the limits of a row: its two fields are there, tag 3 with W / 8 rounded up bytes and tag 4 with 26W + 16, and what they hold is
+-- within its limits
 pub record Row-keeps (s : Settings) (rest : List ℕ) : Type 0 where
-  pub marks-there : field-refusal 3 (mark-bytes (s .width)) rest ≡ 0
-  pub tiles-there : field-refusal 4 (tiles-size (s .width)) (drop (marks-field (s .width)) rest) ≡ 0
-  pub no-stray : any-below (8 * mark-bytes (s .width)) (stray-mark (s .width) (call-in (s .width) rest .marks)) ≡ false
-  pub none-crowded : any-below (s .width) (crowded (s .width) (call-in (s .width) rest .marks)) ≡ false
-  pub none-fast : any-below (s .width) (fast (s .drift) (call-in (s .width) rest .drifts)) ≡ false
-  pub links-right : any-below (s .width) (bad-links s (call-in (s .width) rest .marks) (call-in (s .width) rest .links)) ≡ false
+  pub marks-there : Field-there 3 ((s .width + 7) / 8) rest
+  pub tiles-there : Field-there 4 (26 * s .width + 16) (drop (3 + (s .width + 7) / 8) rest)
+  pub within : Tile-limits s (call-in (s .width) rest .marks) (call-in (s .width) rest .drifts) (call-in (s .width) rest .links)
 
 -- of n rows, with nothing after the last
 pub data Rows-keep (s : Settings) : (n : ℕ) → (rest : List ℕ) → Type 0 where
   over : Rows-keep s 0 []
   and-then : {n : ℕ} {rest : List ℕ} → Row-keeps s rest → Rows-keep s n (drop (row-size (s .width)) rest) → Rows-keep s (suc n) rest
 
--- "A wall description that keeps every limit"
+-- "A wall description that keeps every limit": tag 1 with 24 bytes, settings within their limits, tag 2 with 8W bytes, row 0 times up to
+-- 2^39 - 1, and R rows
 pub record Keeps (file : List ℕ) : Type 0 where
-  pub settings-there : field-refusal 1 settings-size file ≡ 0
-  pub settings-pass : settings-refusal (settings-of file) ≡ 0
-  pub start-there : field-refusal 2 (start-size (settings-of file .width)) (after-settings file) ≡ 0
-  pub start-early : any-below (settings-of file .width) (late-start (start-of file)) ≡ false
+  pub settings-there : Field-there 1 24 file
+  pub settings-within : Limits (settings-of file)
+  pub start-there : Field-there 2 (8 * settings-of file .width) (after-settings file)
+  pub start-early : (c : ℕ) → c < settings-of file .width → getD (start-of file) c 0 ≤ 549755813887
   pub rows-keep : Rows-keep (settings-of file) (settings-of file .rows) (after-start file)
 
 -- the rows of a run, from row l on, each shown with the marks that come with the next, the last without

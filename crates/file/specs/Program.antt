@@ -1,28 +1,27 @@
--- Calls of the operation `step` itself, known by its contract alone. Assumes nothing.
+-- Calls of the operations `step` and `step_by` themselves, known by their contract alone, which is the same. Assumes nothing.
 use mathlib.Core.Path.{_≡_}
 use mathlib.Core.Bool.{true}
 use mathlib.Core.List.{List, [], _++_}
-use Prim.Native.Nat.{ℕ, _≤_}
+use mathlib.Core.Option.{some}
+use Prim.Native.Nat.{ℕ}
 use lib.ListN.{length, take, drop}
 use Rattle.file.specs.File.{wall-text}
 use Rattle.steps.specs.Step.{step-of}
 use Rattle.stages.specs.Fit.{due-of, wall-fits}
-use Rattle.wall.specs.Operation.{Stepping}
+use Rattle.wall.specs.Operation.{wall-of, end-of, Stepping}
 use Rattle.stages.specs.declared.Wall.{Wall}
 use Rattle.stages.specs.declared.Wall.the-variants.{New, Start, Over}
 use Rattle.stages.specs.declared.Place.{Place}
-use Rattle.wall.specs.declared.Went.{Went}
 use Rattle.wall.specs.declared.Answer.{Answer}
-use Rattle.wall.specs.declared.Answer.the-variants as step
 
 -- calls over a file until it is over: each is given as many bytes as are due, fewer only where the file ends, the row that the
 -- last one left, and room in any buffer; `text` is what they wrote there, one after the other. For row 0 any row of W may be lent.
 pub data Calls : (wall : Wall) → (row rest text : List ℕ) → Type 0 where
   over : {row rest : List ℕ} → Calls Over row rest []
   lent : {p : Place} {row rest text : List ℕ} (held : List ℕ) → Calls (Start p) row rest text → Calls (Start p) held rest text
-  took : {x : Wall} {row rest text : List ℕ} (held : List ℕ) (at : ℕ) (answer : Answer) (went : Went) (row-after out : List ℕ) → at ≤ length held →
-      Stepping x (take (due-of x) rest) row held at answer row-after out → answer ≡ step.Went went → Calls (went .wall) row-after (drop (due-of x) rest) text →
-      Calls x row rest (drop at (take (went .end) out) ++ text)
+  took : {x : Wall} {row rest text : List ℕ} (held : List ℕ) (at : ℕ) (answer : Answer) (next : Wall) (end : ℕ) (row-after out : List ℕ) →
+      Stepping x (take (due-of x) rest) row held at answer row-after out → wall-of answer ≡ some next → end-of answer ≡ some end →
+      Calls next row-after (drop (due-of x) rest) text → Calls x row rest (drop at (take end out) ++ text)
 
 -- what the calls write over a whole file is what the definition says is printed of it
 unfoldable pub Calls-right : Type 0

@@ -3,6 +3,7 @@
 use mathlib.Core.Path.{_≡_}
 use mathlib.Core.Bool.{Bool, true, _||_}
 use mathlib.Core.List.{List, [], _∷_}
+use mathlib.Core.Logic.{_↔_}
 use mathlib.Core.Option.{some}
 use Prim.Native.Nat.{ℕ, _<_}
 use lib.Dec.{leb, eqb}
@@ -10,7 +11,7 @@ use lib.ListN.{length, getD}
 use Rattle.columns.specs.Columns.{are-neighbours, any-of}
 use Rattle.columns.specs.Marks.{marked}
 use Rattle.runs.specs.Run.{taken}
-use Rattle.runs.specs.Reach.{Alike, Reach}
+use Rattle.runs.specs.Reach.{Alike, Two-runs, Reach}
 use Rattle.seam.specs.Seam.{seam-of, number-of, side-of}
 use Rattle.seam.specs.declared.Side.the-variants.{Both}
 use Rattle.steps.specs.Shown.{Shown, lines, turned-away, number-shown}
@@ -33,6 +34,10 @@ Accepted-whole =
 -- .. "Any other is turned away": a file that isn't turned away keeps every limit
 unfoldable pub Others-refused : Type 0
 Others-refused = (file : List ℕ) → number-shown (shown file) ≡ 0 → Keeps file
+
+-- so the limits, said plainly, are those of the refusals: a file keeps them exactly where it is not turned away
+unfoldable pub File-plain : Type 0
+File-plain = (file : List ℕ) → Keeps file ↔ (number-shown (shown file) ≡ 0)
 
 -- .. "with the number that 01 gives for its fault": 21 and 23 never arise
 unfoldable pub in-a-file : (number : ℕ) → Bool
@@ -65,5 +70,5 @@ File-is-run =
 -- so demand 3 holds of files
 unfoldable pub File-one-fault : Type 0
 File-one-fault =
-    (a b : List ℕ) (f k : ℕ) → Keeps a → Keeps b → settings-of a ≡ settings-of b → start-of a ≡ start-of b → k < settings-of a .width →
-    f < settings-of a .rows → Alike (settings-of a .width) f k (calls-of a) (calls-of b) → Reach (settings-of a) (start-of a) f k (rows-of a) (rows-of b)
+    (a b : List ℕ) (f k : ℕ) → Keeps a → Keeps b → settings-of a ≡ settings-of b → start-of a ≡ start-of b →
+    Two-runs Alike (settings-of a .width) f k (calls-of a) (calls-of b) → Reach (settings-of a) (start-of a) f k (rows-of a) (rows-of b)

@@ -1,10 +1,13 @@
 -- A run of a wall file: the walls that its steps leave, and how many steps are left. Assumes nothing.
 use mathlib.Core.Path.{_≡_}
+use mathlib.Core.List.{List}
 use Prim.Native.Nat.{ℕ, _+_, _*_, _-_, _≤_, _<_}
 use Rattle.settings.specs.Settings.{settings-refusal}
+use Rattle.stages.specs.Fit.{due-of}
 use Rattle.stages.specs.declared.Place.{Place}
 use Rattle.stages.specs.declared.Wall.{Wall}
 use Rattle.stages.specs.declared.Wall.the-variants.{New, Start, Row, End, Over}
+use Rattle.steps.specs.Step.{step-of}
 
 -- a place in a file: its settings pass, its row is one of theirs, and its offset is no larger than the fields before it
 pub record Stood (p : Place) : Type 0 where
@@ -27,3 +30,9 @@ steps-left (Start p) = p .settings .rows + 2
 steps-left (Row p) = p .settings .rows - p .row + 1
 steps-left (End p) = 1
 steps-left Over = 0
+
+-- a step with something due leaves such a wall again, and fewer steps
+unfoldable pub Steps-fewer : Type 0
+Steps-fewer =
+    (x : Wall) (row part : List ℕ) → Stands x → (due-of x ≡ 0 → ⊥) →
+    Stands (step-of x row part .next) × (steps-left (step-of x row part .next) < steps-left x)

@@ -24,6 +24,6 @@ bad-link s ms ls c k = bad-value s (marked ms k) (link (s .width) ls c k)
 unfoldable pub bad-links : Settings → (marks links : List ℕ) → (tile : ℕ) → Bool
 bad-links s ms ls c = any-of (predecessors (s .width) c) (bad-link s ms ls c)
 
--- no link value of the tile is bad, whoever is faulty
+-- THE CODE'S OWN. No link value of the tile is bad, whoever is faulty
 unfoldable pub Never-bad : Settings → (links : List ℕ) → (c : ℕ) → Type 0
 Never-bad s ls c = (ms : List ℕ) → bad-links s ms ls c ≡ false

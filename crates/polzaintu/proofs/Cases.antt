@@ -18,9 +18,9 @@ use Rattle.admission.specs.Call.{call}
 use Rattle.admission.specs.Refusal.{lengths-are, lengths-right, stray-mark, late-time, crowded, fast, row-tests, row-refusal}
 use Rattle.pulse.specs.Pulse.{arrives, arrival, read-at, stamp, pulse}
 use Rattle.row.specs.Row.{row-of, least-of, most-of, planned, written, number-of as row-number}
-use Rattle.runs.specs.Reach.{apart, widest, gap-below, widest-gap}
+use Rattle.runs.specs.Reach.{apart, widest, gap-below, widest-gap, reach-ticks}
 use Rattle.reach.specs.Span.{end-within, first-within, last-within}
-use Rattle.reach.specs.Search.{gap-of, reach-ticks, outside-wall, reach-of}
+use Rattle.reach.specs.Search.{gap-of, outside-wall, reach-of}
 use Rattle.reach.specs.Answers.{gap-number, reached-number, reached-outside}
 use Rattle.fields.specs.Bytes.{big-endian}
 use Rattle.fields.specs.Field.{field-tests, field-refusal, body, or-else}

@@ -1,2 +1,2 @@
-pub mod Advanced
+pub mod Lines
 pub mod Promises

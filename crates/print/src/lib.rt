@@ -1,21 +1,22 @@
 // A wall file's lines, from one file descriptor to another. The part of the file that is due is read, its step
-// is taken, and the text of what is then shown is written.
-use stream::Ended;
+// is taken, and the text of what is then shown is handed over.
+use stream::Outcome;
 use stream::State;
 use stream::Turn;
 use stream::finish;
 use stream::ready;
 use wall::Answer;
-use window::Window;
 ghost use Prim.Native.Nat.{_+_, _≤_};
 ghost use lib.ListN.{length};
 ghost use Rattle.tables.specs.Word.{Tables};
 ghost use Rattle.lines.specs.Row.{step-room};
-ghost use Rattle.stream.specs.State.{Between};
-ghost use Rattle.print.specs.Advanced.{Advanced};
+ghost use Rattle.stream.specs.State.{Between, Advanced, Ends, Comes-to};
+ghost use Rattle.print.specs.Lines.{lines-step};
 
 // Reads from one descriptor and writes to the other, some 64 KB a call.
-pub fn run(from: i32, to: i32) -> Ended {
+pub fn run(from: i32, to: i32) -> Outcome
+    ensures { λ r. ⌜ Comes-to lines-step tt r tt ⌝ }
+{
     let mut input = io::large_buffer();
     let mut output = io::large_buffer();
     let mut row = [0u64; 256];
@@ -42,8 +43,9 @@ fn run_in(
     input: &mut [u8],
     row: &mut [u64],
     output: &mut [u8],
-) -> Ended
+) -> Outcome
     requires { ⌜ Tables (now tables) × (770 ≤ length (now links)) × (6710 ≤ length (now input)) × (256 ≤ length (now row)) × (step-room ≤ length (now output)) ⌝ }
+    ensures { λ r. ⌜ Ends lines-step tt r tt (now (row .exit)) (now (output .exit)) ⌝ }
 {
     let mut state = State::start();
     while state.due() != 0 {
@@ -52,7 +54,7 @@ fn run_in(
                 state = advance(tables, links, next, input, row, output);
             }
             Turn::Stop(ended) => {
-                return ended;
+                return Outcome { ended, state };
             }
         }
     }
@@ -69,13 +71,12 @@ fn advance(
     output: &mut [u8],
 ) -> State
     requires { ⌜ Tables (now tables) × (770 ≤ length (now links)) × Between state (length (now input)) (length (now output)) × (256 ≤ length (now row)) × (state .text + step-room ≤ length (now output)) ⌝ }
-    ensures { λ r. ⌜ Advanced state (now (input .entry)) (now (row .entry)) (now (output .entry)) r (now (row .exit)) (now (output .exit)) ⌝ }
+    ensures { λ r. ⌜ Advanced lines-step state tt (now (input .entry)) (now (row .entry)) (now (output .entry)) r tt (now (row .exit)) (now (output .exit)) ⌝ }
 {
     let wall = state.wall;
     let window = state.window;
-    let text = state.text;
     let start = window.start;
-    let stop = window.part_end(wall.due());
+    let stop = state.part_end();
     let width = wall.width();
     match wall::step_by(
         wall,
@@ -84,19 +85,11 @@ fn advance(
         &input[start..stop],
         &mut row[..width],
         output,
-        text,
+        state.text,
     ) {
         Answer::Went(went) => {
             let next = went.wall;
-            State {
-                wall: next,
-                window: Window {
-                    start: stop,
-                    end: window.end,
-                    ended: window.ended,
-                },
-                text: went.end,
-            }
+            state.stepped(stop, next, went.end)
         }
         Answer::Unfit => state,
     }

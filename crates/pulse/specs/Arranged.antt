@@ -1,4 +1,4 @@
--- Own among the first three predecessors of a tile, which are adjacent columns. Assumes nothing.
+-- The code's own: own among the first three predecessors of a tile, which are adjacent columns. Assumes nothing.
 use Prim.Native.Nat.{ℕ, zero, suc}
 
 -- what is said or worked out of own and the two others, in their order, by own's place among x, y and z

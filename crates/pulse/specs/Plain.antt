@@ -1,4 +1,5 @@
--- Where a row is plain: what the code asks and works out for a tile whose predecessors are correct. `plain-pulse` of proofs/Laws/Plain.antt shows that to be the tile's pulse. Assumes nothing.
+-- The code's own: what it asks and works out for a tile away from the ends whose predecessors are correct. `plain-pulse` of
+-- proofs/Laws/Plain.antt shows that to be the tile's pulse. Assumes nothing.
 use mathlib.Core.List.{List}
 use Prim.Native.Nat.{ℕ, _+_, _-_, _*_, _≤_, _<_, min, max}
 use lib.ListN.{length, getD}

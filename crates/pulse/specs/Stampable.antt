@@ -1,4 +1,4 @@
--- What the code asks of a link before it reads it, and the stamp that it makes of it. Assumes nothing.
+-- The code's own: what it asks of a link before it reads it, and the stamp that it makes of it. Assumes nothing.
 use mathlib.Core.Path.{_≡_}
 use mathlib.Core.Bool.{true, false}
 use mathlib.Core.List.{List}

@@ -154,7 +154,7 @@ fn of_two(settings: Settings, step: u64, drift: u64, own: u64, a: u64, b: u64) -
     requires { ⌜ (drift ≤ 10000) × (settings .hold ≤ 1000000) ⌝ }
     ensures { λ r. ⌜ r ≡ first-tick drift 0 (closed-P (settings .unit) step (stamp-of own) (stamp-of (min a b)) (stamp-of (max a b)) + settings .hold) ⌝ }
 {
-    let p = forwarding::forward(settings.unit, step, own, smaller(a, b), larger(a, b));
+    let p = forwarding::adopted(settings.unit, step, own, smaller(a, b), larger(a, b));
     clock::first_tick(drift, p + settings.hold)
 }
 
@@ -164,7 +164,7 @@ fn of_three(settings: Settings, step: u64, drift: u64, own: u64, a: u64, b: u64,
     requires { ⌜ (drift ≤ 10000) × (settings .hold ≤ 1000000) ⌝ }
     ensures { λ r. ⌜ r ≡ first-tick drift 0 (closed-P (settings .unit) step (stamp-of own) (stamp-of (min (min a b) d)) (stamp-of (max (max a b) d)) + settings .hold) ⌝ }
 {
-    let p = forwarding::forward(
+    let p = forwarding::adopted(
         settings.unit,
         step,
         own,

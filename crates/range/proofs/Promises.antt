@@ -4,19 +4,28 @@ use mathlib.Core.List.{List, [], _∷_, _++_}
 use Prim.Native.Nat.{ℕ, _≤_, _<_}
 use lib.ListN.{take}
 use native.Mathlib.Omega.{arith}
+use borrow.Author.Tests.{eq-eqb}
 use Rattle.runs.specs.Reach.{apart}
 use Rattle.reach.specs.Survey.{largest-of}
 use Rattle.reach.specs.Promises.{Largest-enough}
 use Rattle.reach.proofs.Promises.{largest-enough}
-use Rattle.file.specs.Limits.{settings-of, start-of, calls-of, rows-of}
+use Rattle.steps.specs.Number.{settings-number}
+use Rattle.file.specs.Limits.{settings-of, after-settings, start-of, after-start, calls-of, rows-of}
+use Rattle.file.proofs.Promises.{start-at, rows-place, settings-accepted, start-accepted, first-row, few-rows}
 use Rattle.search_lines.specs.Text.{largest-word, line-text}
-use Rattle.search.specs.File.{search-text}
-use Rattle.search.specs.Promises.{gaps-text, Whole-told}
-use Rattle.search.proofs.Promises.{whole-told}
+use Rattle.range.specs.File.{start-told, file-told, search-text}
 use Rattle.range.specs.Read.{last-number}
-use Rattle.range.specs.Promises.{Two-files, pulse-of, File-range}
+use Rattle.range.specs.Promises.{gaps-text, Whole-told, Two-files, pulse-of, File-range}
+use Rattle.range.proofs.Laws.Whole.{rows-whole}
 use Rattle.range.proofs.Laws.Read.{last-largest}
 use Rattle.range.proofs.Laws.Files.{first-keeps, all-rows, clean, runs-of-files, reach-small}
+
+pub whole-told : Whole-told
+unfolding Whole-told search-text file-told start-told settings-of start-of rows-of calls-of after-settings after-start
+whole-told asked file k h =
+    let s = settings-of file in
+    rw (eq-eqb (settings-number file) 0 (settings-accepted file k), eq-eqb (start-at file) 0 (start-accepted file k))
+    (rows-whole s asked (s .rows) 0 (rows-place file) 0 (start-of file) (after-start file) (k .rows-keep) (first-row file k) (omega arith) (omega (arith, few-rows file k)) h)
 
 module _ (asked a b : List ℕ) (f k : ℕ) (t : Two-files a b f k) where
   -- what is printed of the first, and the number that it ends with

@@ -31,21 +31,22 @@ use Rattle.fields.specs.Field.{field-tests, field-refusal, body, or-else}
 use Rattle.contents.specs.Contents.{settings-in, times-in, late-start, tile-place, drifts-in, tile-links, links-below, links-in, marks-field, row-size, marks-in, tiles-in, call-in}
 use Rattle.steps.specs.Number.{settings-number, start-number, row-number, row-offset}
 use Rattle.steps.specs.Shown.{row-shown, no-marks, number-shown}
+use Rattle.file.specs.Cases.{put, printed-file}
 use Rattle.file.specs.File.{rows-shown, start-shown, shown}
 use Rattle.file.specs.Limits.{settings-of, after-settings, start-of, after-start, calls-in, calls-of, rows-of}
 use Rattle.range.specs.Read.{last-number}
 use Rattle.range.specs.Promises.{pulse-of}
-use Rattle.range.specs.Cases.{eight, head, row-1, printed-wall, broken-wall, Printed-cases, Read-cases}
+use Rattle.range.specs.Cases.{at-1000, broken-file, Printed-cases, Read-cases}
 use Rattle.range.specs.Witness.{Files-witnessed}
 use Rattle.range.proofs.Cases.{printed-cases, read-cases}
 
 -- neither is turned away
-first-accepted : number-shown (shown printed-wall) ≡ 0
-unfolding printed-wall broken-wall eight head row-1 shown start-shown rows-shown row-shown no-marks number-shown settings-number start-number row-number row-offset call-in tiles-in marks-in row-size marks-field links-in links-below tile-links drifts-in tile-place late-start times-in settings-in or-else body field-refusal field-tests big-endian row-of stamp read-at arrival arrives pulse row-refusal row-tests fast crowded late-time stray-mark lengths-right lengths-are call bad-links bad-link bad-value faulty-among mark-bytes marked any-of table-from link link-place place-in links-before predecessors is-predecessor neighbours columns-from are-neighbours tile-pulse tile-P P heard-correction D least-to larger-at stamp-of latest earliest later earlier natural smaller larger first-tick reads settings-refusal settings-tests drift-cost step-of step settings up any-below outside first
+first-accepted : number-shown (shown printed-file) ≡ 0
+unfolding printed-file put at-1000 broken-file shown start-shown rows-shown row-shown no-marks number-shown settings-number start-number row-number row-offset call-in tiles-in marks-in row-size marks-field links-in links-below tile-links drifts-in tile-place late-start times-in settings-in or-else body field-refusal field-tests big-endian row-of stamp read-at arrival arrives pulse row-refusal row-tests fast crowded late-time stray-mark lengths-right lengths-are call bad-links bad-link bad-value faulty-among mark-bytes marked any-of table-from link link-place place-in links-before predecessors is-predecessor neighbours columns-from are-neighbours tile-pulse tile-P P heard-correction D least-to larger-at stamp-of latest earliest later earlier natural smaller larger first-tick reads settings-refusal settings-tests drift-cost step-of step settings up any-below outside first
 first-accepted = refl
 
-second-accepted : number-shown (shown broken-wall) ≡ 0
-unfolding printed-wall broken-wall eight head row-1 shown start-shown rows-shown row-shown no-marks number-shown settings-number start-number row-number row-offset call-in tiles-in marks-in row-size marks-field links-in links-below tile-links drifts-in tile-place late-start times-in settings-in or-else body field-refusal field-tests big-endian row-of stamp read-at arrival arrives pulse row-refusal row-tests fast crowded late-time stray-mark lengths-right lengths-are call bad-links bad-link bad-value faulty-among mark-bytes marked any-of table-from link link-place place-in links-before predecessors is-predecessor neighbours columns-from are-neighbours tile-pulse tile-P P heard-correction D least-to larger-at stamp-of latest earliest later earlier natural smaller larger first-tick reads settings-refusal settings-tests drift-cost step-of step settings up any-below outside first
+second-accepted : number-shown (shown broken-file) ≡ 0
+unfolding printed-file put at-1000 broken-file shown start-shown rows-shown row-shown no-marks number-shown settings-number start-number row-number row-offset call-in tiles-in marks-in row-size marks-field links-in links-below tile-links drifts-in tile-place late-start times-in settings-in or-else body field-refusal field-tests big-endian row-of stamp read-at arrival arrives pulse row-refusal row-tests fast crowded late-time stray-mark lengths-right lengths-are call bad-links bad-link bad-value faulty-among mark-bytes marked any-of table-from link link-place place-in links-before predecessors is-predecessor neighbours columns-from are-neighbours tile-pulse tile-P P heard-correction D least-to larger-at stamp-of latest earliest later earlier natural smaller larger first-tick reads settings-refusal settings-tests drift-cost step-of step settings up any-below outside first
 second-accepted = refl
 
 -- what they describe
@@ -60,24 +61,24 @@ broken =
     call (8 ∷ []) (replicate 6 0)
     (100 ∷ 100 ∷ 100 ∷ 100 ∷ 100 ∷ 100 ∷ 100 ∷ 100 ∷ 100 ∷ 1000 ∷ 100 ∷ 1000 ∷ 100 ∷ 100 ∷ 1000 ∷ 100 ∷ 100 ∷ 1000 ∷ 100 ∷ 100 ∷ []) 6
 
-first-settings : settings-of printed-wall ≡ wall
-unfolding printed-wall broken-wall eight head row-1 settings-of after-settings start-of after-start calls-in calls-of call-in tiles-in marks-in row-size marks-field links-in links-below tile-links drifts-in tile-place times-in settings-in body big-endian call mark-bytes table-from links-before predecessors is-predecessor columns-from are-neighbours settings wall
+first-settings : settings-of printed-file ≡ wall
+unfolding printed-file put at-1000 broken-file settings-of after-settings start-of after-start calls-in calls-of call-in tiles-in marks-in row-size marks-field links-in links-below tile-links drifts-in tile-place times-in settings-in body big-endian call mark-bytes table-from links-before predecessors is-predecessor columns-from are-neighbours settings wall
 first-settings = refl
 
-second-settings : settings-of broken-wall ≡ wall
-unfolding printed-wall broken-wall eight head row-1 settings-of after-settings start-of after-start calls-in calls-of call-in tiles-in marks-in row-size marks-field links-in links-below tile-links drifts-in tile-place times-in settings-in body big-endian call mark-bytes table-from links-before predecessors is-predecessor columns-from are-neighbours settings wall
+second-settings : settings-of broken-file ≡ wall
+unfolding printed-file put at-1000 broken-file settings-of after-settings start-of after-start calls-in calls-of call-in tiles-in marks-in row-size marks-field links-in links-below tile-links drifts-in tile-place times-in settings-in body big-endian call mark-bytes table-from links-before predecessors is-predecessor columns-from are-neighbours settings wall
 second-settings = refl
 
-same-start : start-of printed-wall ≡ start-of broken-wall
-unfolding printed-wall broken-wall eight head row-1 settings-of after-settings start-of after-start calls-in calls-of call-in tiles-in marks-in row-size marks-field links-in links-below tile-links drifts-in tile-place times-in settings-in body big-endian call mark-bytes table-from links-before predecessors is-predecessor columns-from are-neighbours settings
+same-start : start-of printed-file ≡ start-of broken-file
+unfolding printed-file put at-1000 broken-file settings-of after-settings start-of after-start calls-in calls-of call-in tiles-in marks-in row-size marks-field links-in links-below tile-links drifts-in tile-place times-in settings-in body big-endian call mark-bytes table-from links-before predecessors is-predecessor columns-from are-neighbours settings
 same-start = refl
 
-first-calls : calls-of printed-wall ≡ sound ∷ []
-unfolding printed-wall broken-wall eight head row-1 settings-of after-settings start-of after-start calls-in calls-of call-in tiles-in marks-in row-size marks-field links-in links-below tile-links drifts-in tile-place times-in settings-in body big-endian call mark-bytes table-from links-before predecessors is-predecessor columns-from are-neighbours settings sound
+first-calls : calls-of printed-file ≡ sound ∷ []
+unfolding printed-file put at-1000 broken-file settings-of after-settings start-of after-start calls-in calls-of call-in tiles-in marks-in row-size marks-field links-in links-below tile-links drifts-in tile-place times-in settings-in body big-endian call mark-bytes table-from links-before predecessors is-predecessor columns-from are-neighbours settings sound
 first-calls = refl
 
-second-calls : calls-of broken-wall ≡ broken ∷ []
-unfolding printed-wall broken-wall eight head row-1 settings-of after-settings start-of after-start calls-in calls-of call-in tiles-in marks-in row-size marks-field links-in links-below tile-links drifts-in tile-place times-in settings-in body big-endian call mark-bytes table-from links-before predecessors is-predecessor columns-from are-neighbours settings broken
+second-calls : calls-of broken-file ≡ broken ∷ []
+unfolding printed-file put at-1000 broken-file settings-of after-settings start-of after-start calls-in calls-of call-in tiles-in marks-in row-size marks-field links-in links-below tile-links drifts-in tile-place times-in settings-in body big-endian call mark-bytes table-from links-before predecessors is-predecessor columns-from are-neighbours settings broken
 second-calls = refl
 
 -- the two calls differ in the mark of column 3 and in its links alone
@@ -128,12 +129,12 @@ alike =
         eqb (link 6 (sound .links) c j) (link 6 (broken .links) c j) ≡ true
     same-of c j p q e = not-false _ (unfold link-differs in (rw (p, q) at e))
 
-first-pulse : pulse-of printed-wall 1 3 ≡ 1536
-unfolding pulse-of rows-of rows row-at printed-wall broken-wall eight head row-1 settings-of after-settings start-of after-start calls-in calls-of settings-number start-number row-number row-offset call-in tiles-in marks-in row-size marks-field links-in links-below tile-links drifts-in tile-place late-start times-in settings-in or-else body field-refusal field-tests big-endian row-of stamp read-at arrival arrives pulse row-refusal row-tests fast crowded late-time stray-mark lengths-right lengths-are call bad-links bad-link bad-value faulty-among mark-bytes marked any-of table-from link link-place place-in links-before predecessors is-predecessor neighbours columns-from are-neighbours tile-pulse tile-P P heard-correction D least-to larger-at stamp-of latest earliest later earlier natural smaller larger first-tick reads settings-refusal settings-tests drift-cost step-of step settings up any-below outside first
+first-pulse : pulse-of printed-file 1 3 ≡ 1536
+unfolding pulse-of rows-of rows row-at printed-file put at-1000 broken-file settings-of after-settings start-of after-start calls-in calls-of settings-number start-number row-number row-offset call-in tiles-in marks-in row-size marks-field links-in links-below tile-links drifts-in tile-place late-start times-in settings-in or-else body field-refusal field-tests big-endian row-of stamp read-at arrival arrives pulse row-refusal row-tests fast crowded late-time stray-mark lengths-right lengths-are call bad-links bad-link bad-value faulty-among mark-bytes marked any-of table-from link link-place place-in links-before predecessors is-predecessor neighbours columns-from are-neighbours tile-pulse tile-P P heard-correction D least-to larger-at stamp-of latest earliest later earlier natural smaller larger first-tick reads settings-refusal settings-tests drift-cost step-of step settings up any-below outside first
 first-pulse = refl
 
-second-pulse : pulse-of broken-wall 1 3 ≡ 1464
-unfolding pulse-of rows-of rows row-at printed-wall broken-wall eight head row-1 settings-of after-settings start-of after-start calls-in calls-of settings-number start-number row-number row-offset call-in tiles-in marks-in row-size marks-field links-in links-below tile-links drifts-in tile-place late-start times-in settings-in or-else body field-refusal field-tests big-endian row-of stamp read-at arrival arrives pulse row-refusal row-tests fast crowded late-time stray-mark lengths-right lengths-are call bad-links bad-link bad-value faulty-among mark-bytes marked any-of table-from link link-place place-in links-before predecessors is-predecessor neighbours columns-from are-neighbours tile-pulse tile-P P heard-correction D least-to larger-at stamp-of latest earliest later earlier natural smaller larger first-tick reads settings-refusal settings-tests drift-cost step-of step settings up any-below outside first
+second-pulse : pulse-of broken-file 1 3 ≡ 1464
+unfolding pulse-of rows-of rows row-at printed-file put at-1000 broken-file settings-of after-settings start-of after-start calls-in calls-of settings-number start-number row-number row-offset call-in tiles-in marks-in row-size marks-field links-in links-below tile-links drifts-in tile-place late-start times-in settings-in or-else body field-refusal field-tests big-endian row-of stamp read-at arrival arrives pulse row-refusal row-tests fast crowded late-time stray-mark lengths-right lengths-are call bad-links bad-link bad-value faulty-among mark-bytes marked any-of table-from link link-place place-in links-before predecessors is-predecessor neighbours columns-from are-neighbours tile-pulse tile-P P heard-correction D least-to larger-at stamp-of latest earliest later earlier natural smaller larger first-tick reads settings-refusal settings-tests drift-cost step-of step settings up any-below outside first
 second-pulse = refl
 
 pub files-witnessed : Files-witnessed

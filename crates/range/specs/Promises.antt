@@ -1,17 +1,36 @@
--- What is promised of the search range of a wall file. Each statement is proved in proofs/Promises.antt, under its name in small letters.
--- Assumes nothing.
+-- What is told of a wall without faults, and that it covers any broken tile. The statements are proved in proofs/Promises.antt, under
+-- their names in small letters. Assumes nothing.
 use mathlib.Core.Path.{_≡_}
+use mathlib.Core.Bool.{false}
 use mathlib.Core.List.{List, [], _∷_, _++_}
-use Prim.Native.Nat.{ℕ, _≤_, _<_}
-use lib.ListN.{getD}
-use Rattle.runs.specs.Run.{row-at}
-use Rattle.runs.specs.Reach.{Alike, apart}
+use Prim.Native.Nat.{ℕ, suc, _≤_, _<_}
+use lib.ListN.{getD, take}
+use Rattle.settings.specs.declared.Settings.{Settings}
+use Rattle.columns.specs.Marks.{marked}
+use Rattle.runs.specs.Run.{call-at, row-at}
+use Rattle.runs.specs.Reach.{Alike, apart, widest-gap}
+use Rattle.reach.specs.Survey.{largest-of}
 use Rattle.steps.specs.Shown.{number-shown}
 use Rattle.file.specs.File.{shown}
-use Rattle.file.specs.Limits.{settings-of, start-of, calls-of, rows-of}
-use Rattle.search_lines.specs.Text.{largest-word, line-text}
-use Rattle.search.specs.File.{search-text}
+use Rattle.file.specs.Limits.{settings-of, start-of, calls-of, rows-of, Keeps}
+use Rattle.search_lines.specs.Text.{largest-word, line-text, gap-text}
+use Rattle.range.specs.File.{search-text}
 use Rattle.range.specs.Read.{last-number}
+
+-- the lines of rows from row l on: B of each, and its reach in the rows asked for
+unfoldable pub gaps-text : Settings → (asked : List ℕ) → (l : ℕ) → (rows : List (List ℕ)) → List ℕ
+gaps-text s asked l [] = []
+gaps-text s asked l (ts ∷ rs) = gap-text s (widest-gap (s .width) ts) l asked ++ gaps-text s asked (suc l) rs
+
+-- of a wall without faults that keeps every limit: B and reach of rows 0 to R - 1, and the largest over them, which is enough for any
+-- broken tile (`Largest-enough`, crate reach)
+unfoldable pub Whole-told : Type 0
+Whole-told =
+    (asked file : List ℕ) → Keeps file →
+    ((l c : ℕ) → l < settings-of file .rows → c < settings-of file .width → marked (call-at (calls-of file) l .marks) c ≡ false) →
+    let s = settings-of file in
+    let before-last = take (s .rows) (start-of file ∷ rows-of file) in
+    search-text asked file ≡ gaps-text s asked 0 before-last ++ line-text largest-word (largest-of s 0 0 before-last ∷ [])
 
 -- two files that are not turned away, the first without faults, the second with one, of column k in row f, and alike otherwise
 pub record Two-files (a b : List ℕ) (f k : ℕ) : Type 0 where

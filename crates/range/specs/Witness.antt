@@ -2,14 +2,15 @@
 -- Assumes nothing.
 use mathlib.Core.Path.{_≡_}
 use mathlib.Core.List.{[], _∷_}
-use Rattle.search.specs.File.{search-text}
+use Rattle.file.specs.Cases.{printed-file}
+use Rattle.range.specs.File.{search-text}
 use Rattle.range.specs.Read.{last-number}
 use Rattle.range.specs.Promises.{Two-files, pulse-of}
-use Rattle.range.specs.Cases.{printed-wall, broken-wall}
+use Rattle.range.specs.Cases.{broken-file}
 
 -- the pulse of the broken tile's column in row 1 in both, and the range, which covers the difference
 pub record Files-witnessed : Type 0 where
-  pub files : Two-files printed-wall broken-wall 0 3
-  pub here : pulse-of printed-wall 1 3 ≡ 1536
-  pub there : pulse-of broken-wall 1 3 ≡ 1464
-  pub range : last-number (search-text (1 ∷ []) printed-wall) ≡ 256
+  pub files : Two-files printed-file broken-file 0 3
+  pub here : pulse-of printed-file 1 3 ≡ 1536
+  pub there : pulse-of broken-file 1 3 ≡ 1464
+  pub range : last-number (search-text (1 ∷ []) printed-file) ≡ 256

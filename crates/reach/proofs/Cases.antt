@@ -4,9 +4,9 @@ use Rattle.settings.specs.Refusal.{first, outside}
 use Rattle.settings.specs.Rounding.{up}
 use Rattle.settings.specs.Settings.{settings, drift-cost, settings-tests, settings-refusal}
 use Rattle.columns.specs.Columns.{are-neighbours, columns-from, neighbours}
-use Rattle.runs.specs.Reach.{apart, widest, gap-below, widest-gap}
+use Rattle.runs.specs.Reach.{apart, widest, gap-below, widest-gap, reach-ticks}
 use Rattle.reach.specs.Span.{end-within, first-within, last-within}
-use Rattle.reach.specs.Search.{gap-of, reach-ticks, outside-wall, reach-of, reach-in-row}
+use Rattle.reach.specs.Search.{gap-of, outside-wall, reach-of, reach-in-row}
 use Rattle.reach.specs.Survey.{with-reach, with-gap, surveyed-of, last-reach, largest-of}
 use Rattle.reach.specs.Answers.{gap-number, gap-B, reached-number, reached-outside, reached-ticks, reached-first, reached-last, surveyed-number, surveyed-outside, surveyed-B, surveyed-largest, Gap-is, Reached-is, Surveyed-is}
 use Rattle.reach.specs.Cases.{wall, row-80, row-100, Reaches, Outside, Widest-cases, Gap-cases, Reach-cases, Outside-cases, Survey-cases, Largest-cases}

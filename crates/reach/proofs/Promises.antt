@@ -6,11 +6,11 @@ use lib.ListN.{length, take}
 use native.Mathlib.Omega.{arith}
 use Rattle.settings.proofs.Laws.Cases.{by-order}
 use Rattle.runs.specs.Run.{rows}
-use Rattle.runs.specs.Reach.{apart}
+use Rattle.runs.specs.Reach.{apart, reach-ticks, One-fault}
+use Rattle.runs.proofs.Promises.{one-fault}
 use Rattle.runs.proofs.Laws.Run.{run-of}
 use Rattle.runs.proofs.Laws.Reach.{neighbours-apart}
 use Rattle.reach.specs.Span.{Span-right}
-use Rattle.reach.specs.Search.{reach-ticks}
 use Rattle.reach.specs.Survey.{last-reach, Row-surveyed}
 use Rattle.reach.specs.Answers.{Gap-answered, Reach-answered, Survey-answered}
 use Rattle.reach.specs.Promises.{B-largest, Row-reached, Search-range, Largest-enough}
@@ -18,7 +18,7 @@ use Rattle.reach.proofs.Laws.Gap.{not-wider}
 use Rattle.reach.proofs.Laws.Span.{spanned}
 use Rattle.reach.proofs.Laws.Survey.{row-surveyed as row-law, largest-each, taken-length, taken-at, row-is}
 use Rattle.reach.proofs.Laws.Answers.{gap-answer, reach-answer, row-answer, survey-answer}
-use Rattle.reach.proofs.Laws.Range.{has-gap, in-row, reach-of-runs, searched}
+use Rattle.reach.proofs.Laws.Range.{has-gap, in-row, searched}
 
 pub span-right : Span-right
 unfolding Span-right
@@ -59,9 +59,9 @@ unfolding apart
 apart-none a b e = omega arith
 
 pub largest-enough : Largest-enough
-unfolding Largest-enough last-reach reach-ticks
+unfolding Largest-enough One-fault last-reach reach-ticks
 largest-enough s ts xs ys f k l c runs all m n =
-    let r = reach-of-runs s ts xs ys f k runs all in
+    let r = one-fault s ts xs ys f k runs in
     let rs = ts ∷ rows s xs ts in
     let more : s .rows ≤ length rs = omega (arith, all) in
     let in-wall : f < s .rows = omega (arith, runs .row, run-of s xs ts .as-many, all) in

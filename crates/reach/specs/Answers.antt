@@ -10,9 +10,9 @@ use lib.ListN.{length}
 use Rattle.settings.specs.Settings.{settings-refusal}
 use Rattle.settings.specs.declared.Settings.{Settings}
 use Rattle.rule.specs.Stamp.{latest-stamp}
-use Rattle.runs.specs.Reach.{widest-gap}
+use Rattle.runs.specs.Reach.{widest-gap, reach-ticks}
 use Rattle.reach.specs.Span.{first-within, last-within}
-use Rattle.reach.specs.Search.{gap-of, reach-ticks, reach-of, reach-in-row}
+use Rattle.reach.specs.Search.{gap-of, reach-of, reach-in-row}
 use Rattle.reach.specs.Survey.{surveyed-of, last-reach}
 use Rattle.reach.specs.declared.Gap.{Gap}
 use Rattle.reach.specs.declared.Gap.the-variants as gap

@@ -1,4 +1,3 @@
-pub mod Runs
 pub mod Span
 pub mod Search
 pub mod Survey

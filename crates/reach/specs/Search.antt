@@ -2,13 +2,13 @@
 -- Assumes nothing.
 use mathlib.Core.Bool.{Bool, cond, not, _&&_, _||_}
 use mathlib.Core.List.{List}
-use Prim.Native.Nat.{ℕ, _+_, _-_, _*_}
+use Prim.Native.Nat.{ℕ, _-_}
 use lib.Dec.{eqb, ltb}
 use lib.ListN.{length}
 use Rattle.settings.specs.Settings.{settings-refusal}
 use Rattle.rule.specs.Stamp.{latest-stamp}
 use Rattle.settings.specs.declared.Settings.{Settings}
-use Rattle.runs.specs.Reach.{widest-gap}
+use Rattle.runs.specs.Reach.{widest-gap, reach-ticks}
 use Rattle.reach.specs.Span.{first-within, last-within}
 use Rattle.reach.specs.declared.Gap.{Gap}
 use Rattle.reach.specs.declared.Gap.the-variants as gap
@@ -20,10 +20,6 @@ unfoldable pub gap-of : Settings → (row : List ℕ) → Gap
 gap-of s ts =
     cond (not (eqb (settings-refusal s) 0)) (gap.Refused (settings-refusal s))
     (cond (not (eqb (length ts) (s .width))) (gap.Refused 21) (gap.Widest (widest-gap (s .width) ts)))
-
--- "2B + 8h + (L - f - 1)", n rows after the broken tile's
-unfoldable pub reach-ticks : Settings → (gap rows : ℕ) → ℕ
-reach-ticks s b n = 2 * b + 8 * s .unit + (n - 1)
 
 -- no later row of the wall, no column of it, or a gap over 2^41 - 1
 unfoldable pub outside-wall : Settings → (gap rows column : ℕ) → Bool

@@ -3,7 +3,7 @@
 use mathlib.Core.Bool.{cond}
 use Prim.Native.Nat.{ℕ, _+_, _-_, _≤_, _<_, min}
 use lib.Dec.{eqb, ltb}
-use Rattle.columns.specs.Columns.{Within}
+use Rattle.columns.specs.Columns.{Hops-within}
 
 -- the columns below this have column 0 within n hops, since columns 0 and 2 are neighbours
 unfoldable pub end-within : (n : ℕ) → ℕ
@@ -18,8 +18,8 @@ last-within w k n = w - 1 - first-within w (w - 1 - k) n
 
 -- the columns within n hops are those from the first to the last
 pub record Spanned (w n k c : ℕ) : Type 0 where
-  pub reached : Within w n k c → (first-within w k n ≤ c) × (c ≤ last-within w k n)
-  pub within : first-within w k n ≤ c → c ≤ last-within w k n → Within w n k c
+  pub reached : Hops-within w n k c → (first-within w k n ≤ c) × (c ≤ last-within w k n)
+  pub within : first-within w k n ≤ c → c ≤ last-within w k n → Hops-within w n k c
 
 unfoldable pub Span-right : Type 0
 Span-right = (w n k c : ℕ) → 6 ≤ w → k < w → c < w → Spanned w n k c

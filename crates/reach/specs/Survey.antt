@@ -6,8 +6,8 @@ use lib.ListN.{length, getD}
 use Rattle.settings.specs.Settings.{settings-refusal}
 use Rattle.rule.specs.Stamp.{latest-stamp}
 use Rattle.settings.specs.declared.Settings.{Settings}
-use Rattle.runs.specs.Reach.{widest-gap}
-use Rattle.reach.specs.Search.{gap-of, reach-of, reach-ticks}
+use Rattle.runs.specs.Reach.{widest-gap, reach-ticks}
+use Rattle.reach.specs.Search.{gap-of, reach-of}
 use Rattle.reach.specs.declared.Gap.{Gap}
 use Rattle.reach.specs.declared.Gap.the-variants as gap
 use Rattle.reach.specs.declared.Reached.{Reached}

@@ -35,7 +35,7 @@ pub enum Reached {
 }
 
 // The largest gap that a row can have.
-pub const GAP_MOST: u64 = 2_199_023_255_551;
+pub const GAP_MOST: u64 = rule::forwarding::LATEST;
 
 pub fn widest_gap(settings: Settings, row: &[u64]) -> Gap
     ensures { λ r. ⌜ r ≡ gap-of settings (now (row .entry)) ⌝ }

@@ -1,4 +1,4 @@
--- A row as it is written, from its first column on. Assumes nothing.
+-- The code's own: a row as it is written, from its first column on. Assumes nothing.
 use mathlib.Core.Path.{_≡_}
 use mathlib.Core.List.{List}
 use Prim.Native.Nat.{ℕ, _≤_, _<_}

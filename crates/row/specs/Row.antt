@@ -2,8 +2,10 @@
 use mathlib.Core.List.{List, [], _∷_}
 use mathlib.Core.Path.{_≡_}
 use mathlib.Core.Bool.{cond}
-use Prim.Native.Nat.{ℕ, min, max}
+use mathlib.Core.Option.{Option, none, some}
+use Prim.Native.Nat.{ℕ, _≤_, _<_, min, max}
 use lib.Dec.{eqb}
+use lib.ListN.{getD}
 use Rattle.settings.specs.declared.Settings.{Settings}
 use Rattle.rule.specs.Stamp.{silence}
 use Rattle.admission.specs.Call.{Call}
@@ -34,13 +36,43 @@ planned s ts x =
 unfoldable pub written : Settings → (before : List ℕ) → Call → (held : List ℕ) → List ℕ
 written s ts x held = cond (eqb (row-refusal s ts x) 0) (row-of s ts x) held
 
--- 01's number in each case of the answer
+-- 01's number and values in each case of the answer
 unfoldable pub number-of : Planned → ℕ
 number-of (Row earliest latest) = 0
 number-of (Refused n) = n
+
+unfoldable pub earliest-of : Planned → Option ℕ
+earliest-of (Row earliest latest) = some earliest
+earliest-of (Refused n) = none
+
+unfoldable pub latest-of : Planned → Option ℕ
+latest-of (Row earliest latest) = some latest
+latest-of (Refused n) = none
 
 -- the answer's number is 01's; a row that is turned away holds what it held, one that is accepted holds the pulses
 unfoldable pub Row-answered : Type 0
 Row-answered =
     (s : Settings) (ts : List ℕ) (x : Call) (held : List ℕ) → (number-of (planned s ts x) ≡ row-refusal s ts x)
     × ((row-refusal s ts x ≡ 0 → ⊥) → written s ts x held ≡ held) × (row-refusal s ts x ≡ 0 → written s ts x held ≡ row-of s ts x)
+
+-- the time of some tile
+pub record Some-tile (w : ℕ) (row : List ℕ) (time : ℕ) : Type 0 where
+  pub column : ℕ
+  pub in-row : column < w
+  pub there : getD row column 0 ≡ time
+
+-- every time of a row lies from the one to the other, and each is the time of some tile
+pub record Ends (w : ℕ) (row : List ℕ) (earliest latest : ℕ) : Type 0 where
+  pub from : (c : ℕ) → c < w → earliest ≤ getD row c 0
+  pub to : (c : ℕ) → c < w → getD row c 0 ≤ latest
+  pub first : Some-tile w row earliest
+  pub last : Some-tile w row latest
+
+-- the answer of an accepted row has the earliest and latest time of the row that was written
+unfoldable pub Row-ends : Type 0
+Row-ends =
+    (s : Settings) (ts : List ℕ) (x : Call) (held : List ℕ) → row-refusal s ts x ≡ 0 →
+    let earliest = least-of (row-of s ts x) in
+    let latest = most-of (row-of s ts x) in
+    (earliest-of (planned s ts x) ≡ some earliest) × (latest-of (planned s ts x) ≡ some latest)
+    × Ends (s .width) (written s ts x held) earliest latest

@@ -1,12 +1,15 @@
--- 01's tile cases that are marked with a star, and the corrections next to zero. All have h 12. Assumes nothing.
+-- 01's tile cases that are marked with a star, the corrections next to zero and silence, all with h 12; then its clock, its
+-- limits and pulses. Each statement is proved in proofs/Cases.antt, under its name in small letters. Assumes nothing.
 use mathlib.Core.Path.{_≡_}
 use mathlib.Core.List.{List, [], _∷_}
 use mathlib.Core.Option.{Option, none, some}
-use Prim.Native.Nat.{ℕ}
+use Prim.Native.Nat.{ℕ, _-_, _^_}
 use lib.IntN.{ℤ, pos, negsuc}
-use Rattle.settings.specs.Settings.{step}
-use Rattle.rule.specs.Stamp.{Stamp, heard, silent, earliest, latest}
+use Rattle.settings.specs.Settings.{settings, step}
+use Rattle.rule.specs.Clock.{reads, first-tick}
+use Rattle.rule.specs.Stamp.{Stamp, heard, silent, earliest, latest, latest-stamp, silence, stamp-of, code-of}
 use Rattle.rule.specs.Forward.{P, correction}
+use Rattle.rule.specs.Pulse.{tile-pulse}
 
 -- a case: the drift limit r, the stamps, and P with the correction where 01 gives one
 pub record Case : Type 0 where
@@ -46,6 +49,15 @@ around-zero =
     ∷ case 0 (stamps 100 100) (heard 113) 112 (some (pos 1))
     ∷ []
 
+-- a late own beside a silent neighbour is not corrected, and an early one waits for the earliest of the other two; beside a
+-- silent own the latest of three decides
+unfoldable pub with-silence : List Case
+with-silence =
+    case 0 (heard 100 ∷ silent ∷ []) (heard 200) 200 (some (pos 0))
+    ∷ case 0 (heard 130 ∷ silent ∷ heard 100 ∷ []) (heard 50) 64 (some (negsuc 13))
+    ∷ case 0 (heard 130 ∷ heard 100 ∷ heard 120 ∷ []) silent 166 none
+    ∷ []
+
 -- the rule as 01 writes it gives each case's P, and its correction where one is given
 unfoldable pub Given : Option ℤ → Option ℤ → Type 0
 Given none c = Unit {0}
@@ -66,3 +78,43 @@ Starred-met = Each-meets starred
 
 unfoldable pub Around-zero-met : Type 0
 Around-zero-met = Each-meets around-zero
+
+-- and a silent own has no correction
+unfoldable pub Silence-met : Type 0
+Silence-met = Each-meets with-silence × (correction 12 24 silent (heard 100) (heard 130) ≡ none)
+
+-- a clock of drift 10,000 and phase 0 reads 1111 at tick 1100 and just misses 1110 a tick before; it reads 1511 first at 1497,
+-- and less at 1496. At drift 1 a tick in a million is gained, at drift 0 none.
+unfoldable pub Clock-cases : Type 0
+Clock-cases =
+    (reads 10000 0 1100 ≡ 1111)
+    × (reads 10000 0 1099 ≡ 1109)
+    × (first-tick 10000 0 1511 ≡ 1497)
+    × (reads 10000 0 1497 ≡ 1511)
+    × (reads 10000 0 1496 ≡ 1510)
+    × (reads 1 0 999999 ≡ 999999)
+    × (reads 1 0 1000000 ≡ 1000001)
+    × (reads 0 0 1100 ≡ 1100)
+    × (first-tick 0 0 1511 ≡ 1511)
+
+-- the latest stamp, and the number that stands for silence
+unfoldable pub Stamp-limits : Type 0
+Stamp-limits =
+    (latest-stamp ≡ 2 ^ 41 - 1)
+    × (silence ≡ 2 ^ 64 - 1)
+    × (stamp-of (2 ^ 64 - 1) ≡ silent)
+    × (stamp-of (2 ^ 64 - 2) ≡ heard (2 ^ 64 - 2))
+    × (code-of silent ≡ 2 ^ 64 - 1)
+    × (code-of (heard 0) ≡ 0)
+
+-- columns 0, 2 and 3 of 01's printed wall, where the hold is 400, and two starred cases there; with drift 10,000 the tick of
+-- 1111 + 400
+unfoldable pub Pulse-cases : Type 0
+Pulse-cases =
+    let wall = settings 6 1 100 10 400 0 12 in
+    (tile-pulse wall 0 0 (heard 1100) (stamps 1100 1100) ≡ 1500)
+    × (tile-pulse wall 0 0 (heard 1100) (heard 1100 ∷ stamps 1100 1180) ≡ 1500)
+    × (tile-pulse wall 0 0 (heard 1180) (stamps 1100 1100) ≡ 1536)
+    × (tile-pulse wall 0 0 (heard 220) (stamps 100 300) ≡ 608)
+    × (tile-pulse wall 0 0 silent (stamps 100 130) ≡ 566)
+    × (tile-pulse (settings 6 1 100 10 400 10000 16) 10000 0 (heard 1111) (stamps 1111 1111) ≡ 1497)

@@ -3,6 +3,6 @@ pub mod Signed
 pub mod Stamp
 pub mod Forward
 pub mod Closed
-pub mod Cases
 pub mod Pulse
+pub mod Cases
 pub mod Promises

@@ -4,7 +4,6 @@ use mathlib.Core.List.{List, [], _∷_}
 use Prim.Native.Nat.{ℕ, _+_, _≤_, min, max}
 use lib.Dec.{eqb}
 
-infix 50 _≼_ _≼*_ _∈_
 pub data Stamp : Type 0 where
   heard : ℕ → Stamp
   silent : Stamp
@@ -28,17 +27,11 @@ unfoldable pub latest : List Stamp → Stamp
 latest [] = heard 0
 latest (x ∷ xs) = later x (latest xs)
 
--- no later than: silence is last
-pub data _≼_ : Stamp → Stamp → Type 0 where
-  in-order : {a b : ℕ} → a ≤ b → heard a ≼ heard b
-  last : {x : Stamp} → x ≼ silent
+-- the latest stamp that is accepted, and the latest time of a seam: 2^41 - 1
+abbrev pub latest-stamp : ℕ
+latest-stamp = 2199023255551
 
--- n later; silence stays silence
-unfoldable pub after : ℕ → Stamp → Stamp
-after n (heard a) = heard (a + n)
-after n silent = silent
-
--- "2^64 - 1 is silent"
+-- a stamp as one number: "2^64 - 1 is silent"
 abbrev pub silence : ℕ
 silence = 18446744073709551615
 
@@ -49,10 +42,22 @@ unfoldable pub code-of : Stamp → ℕ
 code-of (heard a) = a
 code-of silent = silence
 
--- what the laws of the rule speak of: two lists of stamps, each no later than its fellow
+-- OF STATEMENTS AND LAWS ALONE. No definition of what an operation answers uses what follows.
+infix 50 _≼_ _≼*_ _∈_
+-- no later than: silence is last
+pub data _≼_ : Stamp → Stamp → Type 0 where
+  in-order : {a b : ℕ} → a ≤ b → heard a ≼ heard b
+  last : {x : Stamp} → x ≼ silent
+
+-- two lists of stamps, each no later than its fellow
 pub data _≼*_ : List Stamp → List Stamp → Type 0 where
   none : [] ≼* []
   both : {x y : Stamp} {xs ys : List Stamp} → x ≼ y → xs ≼* ys → (x ∷ xs) ≼* (y ∷ ys)
+
+-- n later; silence stays silence
+unfoldable pub after : ℕ → Stamp → Stamp
+after n (heard a) = heard (a + n)
+after n silent = silent
 
 -- a stamp among some
 pub data _∈_ (x : Stamp) : List Stamp → Type 0 where
@@ -80,7 +85,3 @@ unheard-of silent = 1
 unfoldable pub unheard-in : List Stamp → ℕ
 unheard-in [] = 0
 unheard-in (x ∷ xs) = unheard-of x + unheard-in xs
-
--- the latest stamp that is accepted: 2^41 - 1
-abbrev pub latest-stamp : ℕ
-latest-stamp = 2199023255551

@@ -11,6 +11,9 @@ ghost use Rattle.rule.specs.Closed.{middle, closed-P, Forwardable};
 // later one.
 pub const SILENT: u64 = 18_446_744_073_709_551_615;
 
+// The latest stamp that an operation accepts, and the latest time of a seam.
+pub const LATEST: u64 = 2_199_023_255_551;
+
 // The stamp that decides, from the earliest to the latest neighbour's.
 fn middle(unit: u64, least: u64, most: u64) -> u64
     requires { ⌜ (0 < unit) × (unit ≤ 62500) × (least ≤ most) × (most ≤ 4398046511104) ⌝ }
@@ -25,8 +28,8 @@ fn middle(unit: u64, least: u64, most: u64) -> u64
     least + half * (gap / turn) + less(gap % turn, half)
 }
 
-// P, from own's stamp and the earliest and latest of the neighbours'.
-pub fn forward(unit: u64, step: u64, own: u64, least: u64, most: u64) -> u64
+// P, the stamp that a tile adopts, from own's stamp and the earliest and latest of the neighbours'.
+pub fn adopted(unit: u64, step: u64, own: u64, least: u64, most: u64) -> u64
     requires { ⌜ Forwardable unit step own least most ⌝ }
     ensures { λ r. ⌜ r ≡ closed-P unit step (stamp-of own) (stamp-of least) (stamp-of most) ⌝ }
 {

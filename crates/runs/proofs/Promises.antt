@@ -12,7 +12,7 @@ use Rattle.links.specs.Links.{latest-time}
 use Rattle.columns.specs.Marks.{marked}
 use Rattle.admission.specs.Refusal.{late-time}
 use Rattle.runs.specs.Run.{taken, rows, call-at, row-at}
-use Rattle.runs.specs.Reach.{Alike, Alike-among, One-fault, One-more-fault}
+use Rattle.runs.specs.Reach.{Alike, Alike-among, Two-runs, One-fault, One-more-fault}
 use Rattle.runs.specs.Program.{Program-one-fault, Program-one-more-fault}
 use Rattle.runs.proofs.Laws.Program.{run-of-calls}
 use Rattle.runs.specs.Growth.{Pulse-grows, Row-small, Never-late}
@@ -27,35 +27,36 @@ use Rattle.runs.proofs.Laws.Reach.{reach}
 -- demand 3
 pub one-more-fault : One-more-fault
 unfolding One-more-fault
-one-more-fault s ts xs ys f k ok long i first second j alike =
-    let run = run-of s xs ts in
-    reach run (run-of s ys ts) alike i (omega (arith, run .as-many))
+one-more-fault s ts xs ys f k two = reach (run-of s xs ts) (run-of s ys ts) two
 
 -- with no other faulty tile
-among : {w f k : ℕ} {xs ys : List Call} → Alike w f k xs ys → k < w → f < length xs → Alike-among w f k xs ys
-among {f = f} {k = k} alike i j =
+among : {w f k : ℕ} {xs ys : List Call} → Two-runs Alike w f k xs ys → Two-runs Alike-among w f k xs ys
+among {f = f} {k = k} two =
+    let alike = two .alike in
     record {
-      as-many = alike .as-many;
-      drifts = alike .drifts;
-      correct = alike .first-clean f k j i;
-      marks = λ l c m n. rw (alike .first-clean l c m n) (alike .marks l c m n);
-      links = alike .links;
+      row = two .row;
+      column = two .column;
+      alike = record {
+        as-many = alike .as-many;
+        drifts = alike .drifts;
+        correct = alike .first-clean f k (two .row) (two .column);
+        marks = λ l c m n. rw (alike .first-clean l c m n) (alike .marks l c m n);
+        links = alike .links;
+      };
     }
 
 pub one-fault : One-fault
 unfolding One-fault One-more-fault
-one-fault s ts xs ys f k ok long i first second j alike =
-    one-more-fault s ts xs ys f k ok long i first second j (among alike i (omega (arith, run-of s xs ts .as-many)))
+one-fault s ts xs ys f k two = one-more-fault s ts xs ys f k (among two)
 
 -- the same of the program's own calls
 pub program-one-more-fault : Program-one-more-fault
 unfolding Program-one-more-fault
-program-one-more-fault s ts xs ys rs qs f k first second i j alike = reach (run-of-calls first) (run-of-calls second) alike i j
+program-one-more-fault s ts xs ys rs qs f k first second two = reach (run-of-calls first) (run-of-calls second) two
 
 pub program-one-fault : Program-one-fault
 unfolding Program-one-fault
-program-one-fault s ts xs ys rs qs f k first second i j alike =
-    reach (run-of-calls first) (run-of-calls second) (among alike i j) i j
+program-one-fault s ts xs ys rs qs f k first second two = reach (run-of-calls first) (run-of-calls second) (among two)
 
 -- the growth of times
 pub pulse-grows : Pulse-grows

@@ -1,12 +1,12 @@
 -- Demand 3 of the program: lists of calls of the row operation itself, known by its contract alone. Assumes nothing.
 use mathlib.Core.Path.{_≡_}
 use mathlib.Core.List.{List, [], _∷_}
-use Prim.Native.Nat.{ℕ, _<_}
+use Prim.Native.Nat.{ℕ}
 use lib.ListN.{length}
 use Rattle.settings.specs.declared.Settings.{Settings}
 use Rattle.admission.specs.Call.{Call, call}
 use Rattle.row.specs.Row.{planned, written, number-of}
-use Rattle.runs.specs.Reach.{Alike, Alike-among, Reach}
+use Rattle.runs.specs.Reach.{Alike, Alike-among, Two-runs, Reach}
 use Rattle.row.specs.declared.Planned.{Planned}
 
 -- what `plan` ensures of a call: its answer, and what the lent row holds afterwards
@@ -27,10 +27,11 @@ pub data Calls (s : Settings) : (row : List ℕ) → (xs : List Call) → (rs : 
 -- the rows that a caller holds obey demand 3
 unfoldable pub Program-one-fault : Type 0
 Program-one-fault =
-    (s : Settings) (ts : List ℕ) (xs ys : List Call) (rs qs : List (List ℕ)) (f k : ℕ) → Calls s ts xs rs → Calls s ts ys qs → k < s .width →
-    f < length xs → Alike (s .width) f k xs ys → Reach s ts f k rs qs
+    (s : Settings) (ts : List ℕ) (xs ys : List Call) (rs qs : List (List ℕ)) (f k : ℕ) → Calls s ts xs rs → Calls s ts ys qs →
+    Two-runs Alike (s .width) f k xs ys → Reach s ts f k rs qs
 
+-- .. and where other tiles are faulty too
 unfoldable pub Program-one-more-fault : Type 0
 Program-one-more-fault =
-    (s : Settings) (ts : List ℕ) (xs ys : List Call) (rs qs : List (List ℕ)) (f k : ℕ) → Calls s ts xs rs → Calls s ts ys qs → k < s .width →
-    f < length xs → Alike-among (s .width) f k xs ys → Reach s ts f k rs qs
+    (s : Settings) (ts : List ℕ) (xs ys : List Call) (rs qs : List (List ℕ)) (f k : ℕ) → Calls s ts xs rs → Calls s ts ys qs →
+    Two-runs Alike-among (s .width) f k xs ys → Reach s ts f k rs qs

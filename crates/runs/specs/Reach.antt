@@ -5,9 +5,8 @@ use mathlib.Core.List.{List, [], _∷_}
 use Prim.Native.Nat.{ℕ, zero, suc, _+_, _-_, _*_, _≤_, _<_, max}
 use lib.Dec.{eqb}
 use lib.ListN.{length, getD}
-use Rattle.settings.specs.Settings.{settings-refusal}
 use Rattle.settings.specs.declared.Settings.{Settings}
-use Rattle.columns.specs.Columns.{neighbours, is-predecessor, Within, link}
+use Rattle.columns.specs.Columns.{neighbours, is-predecessor, Hops-within, link}
 use Rattle.admission.specs.Call.{Call}
 use Rattle.columns.specs.Marks.{marked}
 use Rattle.runs.specs.Run.{taken, rows, call-at, row-at}
@@ -33,6 +32,14 @@ pub record Alike-among (w f k : ℕ) (xs ys : List Call) : Type 0 where
       (l c j : ℕ) → l < length xs → c < w → j < w → is-predecessor w c j ≡ true → (eqb l f && eqb j k) ≡ false →
       link w (call-at xs l .links) c j ≡ link w (call-at ys l .links) c j
 
+-- Two runs side by side, by their accepted calls: alike but for the tile of column k in row f, which is a row that a call comes after.
+-- Each statement has them under the same settings and from the same row 0 times. How many rows they have is not asked, so that runs of
+-- R rows are among them.
+pub record Two-runs (Like : (w f k : ℕ) → (xs ys : List Call) → Type 0) (w f k : ℕ) (xs ys : List Call) : Type 0 where
+  pub row : f < length xs
+  pub column : k < w
+  pub alike : Like w f k xs ys
+
 -- "A difference is the larger less the smaller."
 unfoldable pub apart : (a b : ℕ) → ℕ
 apart a b = (a - b) + (b - a)
@@ -49,25 +56,29 @@ gap-below (suc c) w ts = max (gap-below c w ts) (widest (getD ts c 0) ts (neighb
 unfoldable pub widest-gap : (w : ℕ) → (row : List ℕ) → ℕ
 widest-gap w ts = gap-below w w ts
 
+-- 2B + 8h + (L - f - 1), for B of row f and n = L - f: the bound of demand 3
+unfoldable pub reach-ticks : Settings → (gap n : ℕ) → ℕ
+reach-ticks s b n = 2 * b + 8 * s .unit + (n - 1)
+
 -- "every correct tile's pulse in rows up to f, and every pulse of a later row L that lies more than L - f hops from the faulty
--- column, is the same in both runs, and every other pulse of a row L above f differs between them by at most 2B + 8h + (L - f - 1)"
+-- column, is the same in both runs, and every other pulse of a row L above f differs between them by at most" so many ticks
 pub record Reach (s : Settings) (ts : List ℕ) (f k : ℕ) (rs qs : List (List ℕ)) : Type 0 where
   pub before : (l c : ℕ) → l ≤ f → c < s .width → getD (row-at ts rs l) c 0 ≡ getD (row-at ts qs l) c 0
   pub far :
-      (l c : ℕ) → f < l → l ≤ length rs → c < s .width → (Within (s .width) (l - f) k c → ⊥) →
+      (l c : ℕ) → f < l → l ≤ length rs → c < s .width → (Hops-within (s .width) (l - f) k c → ⊥) →
       getD (row-at ts rs l) c 0 ≡ getD (row-at ts qs l) c 0
   pub near :
       (l c : ℕ) → f < l → l ≤ length rs → c < s .width →
-      apart (getD (row-at ts rs l) c 0) (getD (row-at ts qs l) c 0) ≤ 2 * widest-gap (s .width) (row-at ts rs f) + 8 * s .unit + (l - f - 1)
+      apart (getD (row-at ts rs l) c 0) (getD (row-at ts qs l) c 0) ≤ reach-ticks s (widest-gap (s .width) (row-at ts rs f)) (l - f)
 
+-- demand 3
 unfoldable pub One-fault : Type 0
 One-fault =
-    (s : Settings) (ts : List ℕ) (xs ys : List Call) (f k : ℕ) → settings-refusal s ≡ 0 → length ts ≡ s .width → k < s .width →
-    length (rows s xs ts) ≡ s .rows → length (rows s ys ts) ≡ s .rows → f < s .rows → Alike (s .width) f k (taken s xs ts) (taken s ys ts) →
+    (s : Settings) (ts : List ℕ) (xs ys : List Call) (f k : ℕ) → Two-runs Alike (s .width) f k (taken s xs ts) (taken s ys ts) →
     Reach s ts f k (rows s xs ts) (rows s ys ts)
 
+-- where other tiles are faulty too, alike in both runs
 unfoldable pub One-more-fault : Type 0
 One-more-fault =
-    (s : Settings) (ts : List ℕ) (xs ys : List Call) (f k : ℕ) → settings-refusal s ≡ 0 → length ts ≡ s .width → k < s .width →
-    length (rows s xs ts) ≡ s .rows → length (rows s ys ts) ≡ s .rows → f < s .rows → Alike-among (s .width) f k (taken s xs ts) (taken s ys ts) →
+    (s : Settings) (ts : List ℕ) (xs ys : List Call) (f k : ℕ) → Two-runs Alike-among (s .width) f k (taken s xs ts) (taken s ys ts) →
     Reach s ts f k (rows s xs ts) (rows s ys ts)

@@ -10,7 +10,7 @@ use lib.Ieee.{binary64, round, toBits}
 use Rattle.settings.proofs.Laws.Cases.{by-order}
 use Rattle.rule.proofs.Laws.Signed.{minus, minus-fits, sub-pos, sub-≤}
 use Rattle.seam.specs.Seam.{latest, half, halves, late, joined, seam-of, number-of, halves-of, side-of}
-use Rattle.seam.specs.Promises.{Halves-exact, Zero-gap-plus, Bits, Printed-bits, Odd-bits, Gap-range, Gap-ends, Over, Seam-answered, Faulty-unread}
+use Rattle.seam.specs.Promises.{Halves-exact, Zero-gap-plus, Bits, Printed-bits, Odd-bits, Gap-range, Gap-ends, Latest-time, Over, Seam-answered, Faulty-unread}
 use Rattle.seam.specs.declared.Halves.{Halves}
 use Rattle.seam.proofs.Laws.{half-exact, half-sub, half-fits, over-late, within-late, faulty-late, refused-left, refused-right, accepted}
 
@@ -54,6 +54,10 @@ gap-range l r i k = (
 pub gap-ends : Gap-ends
 unfolding Gap-ends
 gap-ends = (refl, refl)
+
+pub latest-time : Latest-time
+unfolding Latest-time
+latest-time = refl
 
 late-of : (t : ℕ) (f : Bool) → Over t f → late t f ≡ true
 unfolding Over

@@ -4,7 +4,7 @@ use mathlib.Core.Path.{_≡_}
 use mathlib.Core.Bool.{Bool, true, false}
 use mathlib.Core.Logic.{_⊎_}
 use mathlib.Core.Option.{none, some}
-use Prim.Native.Nat.{ℕ, _+_, _-_, _≤_, _<_}
+use Prim.Native.Nat.{ℕ, _+_, _-_, _^_, _≤_, _<_}
 use lib.Dec.{T, ltb}
 use lib.IntN.{pos, negℤ, _-ℤ_}
 use lib.Signed.{_≤ℤ_}
@@ -54,6 +54,10 @@ Gap-range =
 
 unfoldable pub Gap-ends : Type 0
 Gap-ends = (pos 0 -ℤ pos latest ≡ negℤ (pos latest)) × (pos latest -ℤ pos 0 ≡ pos latest)
+
+-- the latest time
+unfoldable pub Latest-time : Type 0
+Latest-time = latest ≡ 2 ^ 41 - 1
 
 -- "31 a correct tile's time over 2^41 - 1"
 unfoldable pub Over : (time : ℕ) (faulty : Bool) → Type 0

@@ -5,15 +5,16 @@ use Prim.Native.Nat.{ℕ, suc, _+_}
 use lib.Dec.{ltb}
 use lib.IntN.{ℤ, pos, negsuc, _-ℤ_}
 use lib.Ieee.{Float, binary64, round}
+use Rattle.rule.specs.Stamp.{latest-stamp}
 use Rattle.seam.specs.declared.Halves.{Halves}
 use Rattle.seam.specs.declared.Side.{Side}
 use Rattle.seam.specs.declared.Side.the-variants.{Left, Right, Both}
 use Rattle.seam.specs.declared.Seam.{Seam}
 use Rattle.seam.specs.declared.Seam.the-variants.{Closed, Open, Refused}
 
--- 2^41 - 1
+-- the latest time of a seam is the latest stamp, 2^41 - 1
 abbrev pub latest : ℕ
-latest = 2199023255551
+latest = latest-stamp
 
 -- half of a whole number, as a 64-bit floating number: the fraction n / 2 with the number's sign, and 0 plus
 unfoldable pub half : ℤ → Float

@@ -25,7 +25,7 @@ pub enum Seam {
 }
 
 // The latest time that is accepted of a correct tile.
-pub const LATEST: u64 = 2_199_023_255_551;
+pub const LATEST: u64 = rule::forwarding::LATEST;
 
 pub fn join(left: u64, left_faulty: bool, right: u64, right_faulty: bool) -> Seam
     ensures { λ r. ⌜ r ≡ seam-of left «left_faulty» right «right_faulty» ⌝ }

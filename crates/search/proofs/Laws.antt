@@ -1,4 +1,2 @@
 -- The laws of the definitions, each file over one of them.
-pub mod File
-pub mod Moved
-pub mod Whole
+pub mod Search

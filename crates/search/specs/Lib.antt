@@ -1,3 +1,2 @@
-pub mod Moved
-pub mod File
+pub mod Search
 pub mod Promises

@@ -1,22 +1,23 @@
 // The search range of a wall file, from one file descriptor to another: B of each row, the reach in the
 // later rows asked for, and the largest over the wall.
+use stages::Wall;
 use steps::Taken;
 use steps::rows::copy;
-use stream::Ended;
+use stream::Outcome;
 use stream::State;
 use stream::Turn;
 use stream::finish;
 use stream::ready;
+use telling::Told;
 use telling::tell;
-use window::Window;
 ghost use mathlib.Core.Path.{_≡_};
 ghost use Prim.Native.Nat.{_+_, _≤_};
 ghost use lib.ListN.{length, take};
 ghost use Rattle.stages.specs.Fit.{width-of};
 ghost use Rattle.lines.specs.Row.{step-room};
 ghost use Rattle.file.specs.Stands.{Stands};
-ghost use Rattle.stream.specs.State.{Between};
-ghost use Rattle.search.specs.Moved.{Went-on, Moved};
+ghost use Rattle.stream.specs.State.{Between, Advanced, Ends, Comes-to};
+ghost use Rattle.search.specs.Search.{search-step, Tells};
 
 // A run between two steps, and the largest reach so far.
 struct Search {
@@ -24,8 +25,16 @@ struct Search {
     largest: u64,
 }
 
+// How a search ended, and the largest reach of the rows so far.
+pub struct Found {
+    pub outcome: Outcome,
+    pub largest: u64,
+}
+
 // Reads from one descriptor and writes to the other. Of the rows asked for the first 16 count.
-pub fn run(from: i32, to: i32, asked: &[u64]) -> Ended {
+pub fn run(from: i32, to: i32, asked: &[u64]) -> Found
+    ensures { λ r. ⌜ Comes-to (search-step (take 16 (now (asked .entry)))) 0 (r .outcome) (r .largest) ⌝ }
+{
     let mut input = io::large_buffer();
     let mut output = io::large_buffer();
     let mut row = [0u64; 256];
@@ -41,7 +50,7 @@ pub fn run(from: i32, to: i32, asked: &[u64]) -> Ended {
     )
 }
 
-// Steps until nothing is due.
+// Tells until nothing is due.
 fn run_in(
     from: i32,
     to: i32,
@@ -50,109 +59,93 @@ fn run_in(
     row: &mut [u64],
     next: &mut [u64],
     output: &mut [u8],
-) -> Ended
+) -> Found
     requires { ⌜ (6710 ≤ length (now input)) × (256 ≤ length (now row)) × (256 ≤ length (now next)) × (step-room ≤ length (now output)) ⌝ }
+    ensures { λ r. ⌜ Ends (search-step (take 16 (now (asked .entry)))) 0 (r .outcome) (r .largest) (now (row .exit)) (now (output .exit)) ⌝ }
 {
     let mut state = State::start();
     let mut largest = 0;
     while state.due() != 0 {
         match ready(from, to, state, input, output) {
             Turn::On(made) => {
-                let search = Search {
-                    state: made,
-                    largest,
-                };
-                let moved = advance(asked, search, input, row, next, output);
+                let moved = advance(asked, made, largest, input, row, next, output);
                 state = moved.state;
                 largest = moved.largest;
             }
             Turn::Stop(ended) => {
-                return ended;
+                return Found {
+                    outcome: Outcome { ended, state },
+                    largest,
+                };
             }
         }
     }
-    finish(to, state, output)
+    Found {
+        outcome: finish(to, state, output),
+        largest,
+    }
 }
 
 // Takes the step of the due part, or of what is left where the input has ended.
 fn advance(
     asked: &[u64],
-    search: Search,
+    state: State,
+    largest: u64,
     input: &[u8],
     row: &mut [u64],
     next: &mut [u64],
     output: &mut [u8],
 ) -> Search
-    requires { ⌜ Between (search .state) (length (now input)) (length (now output)) × (256 ≤ length (now row)) × (256 ≤ length (now next)) × (search .state .text + step-room ≤ length (now output)) ⌝ }
-    ensures { λ r. ⌜ Moved (take 16 (now (asked .entry))) search (now (input .entry)) (now (row .entry)) (now (next .entry)) (now (output .entry)) r (now (row .exit)) (now (output .exit)) ⌝ }
+    requires { ⌜ Between state (length (now input)) (length (now output)) × (256 ≤ length (now row)) × (256 ≤ length (now next)) × (state .text + step-room ≤ length (now output)) ⌝ }
+    ensures { λ r. ⌜ Advanced (search-step (take 16 (now (asked .entry)))) state largest (now (input .entry)) (now (row .entry)) (now (output .entry)) (r .state) (r .largest) (now (row .exit)) (now (output .exit)) ⌝ }
 {
-    let state = search.state;
     let wall = state.wall;
     let window = state.window;
     let start = window.start;
-    let stop = window.part_end(wall.due());
+    let stop = state.part_end();
     let width = wall.width();
-    let taken = Search {
-        state: State {
-            wall,
-            window: Window {
-                start: stop,
-                end: window.end,
-                ended: window.ended,
-            },
-            text: state.text,
-        },
-        largest: search.largest,
-    };
-    step(
+    let told = step(
         asked,
-        taken,
+        wall,
+        largest,
         &input[start..stop],
         &mut row[..width],
         &mut next[..width],
         output,
-    )
+        state.text,
+    );
+    let after = told.wall;
+    Search {
+        state: state.stepped(stop, after, told.end),
+        largest: told.largest,
+    }
 }
 
 // With the part, and rows of the wall's width. Tells what the step brought.
 fn step(
     asked: &[u64],
-    search: Search,
+    wall: Wall,
+    largest: u64,
     part: &[u8],
     row: &mut [u64],
     next: &mut [u64],
     output: &mut [u8],
-) -> Search
-    requires { ⌜ Stands (search .state .wall) × (search .state .text + step-room ≤ length (now output)) ⌝ }
-    requires { ⌜ (length (now row) ≡ width-of (search .state .wall)) × (length (now next) ≡ width-of (search .state .wall)) × (length (now row) ≤ 256) ⌝ }
-    ensures { λ r. ⌜ Went-on (take 16 (now (asked .entry))) search (now (part .entry)) (now (row .entry)) (now (next .entry)) (now (output .entry)) r (now (row .exit)) (now (output .exit)) ⌝ }
+    at: usize,
+) -> Told
+    requires { ⌜ Stands wall × (at + step-room ≤ length (now output)) ⌝ }
+    requires { ⌜ (length (now row) ≡ width-of wall) × (length (now next) ≡ width-of wall) × (length (now row) ≤ 256) ⌝ }
+    ensures { λ r. ⌜ Tells (take 16 (now (asked .entry))) wall largest (now (part .entry)) (now (row .entry)) (now (output .entry)) at r (now (row .exit)) (now (output .exit)) ⌝ }
 {
-    let state = search.state;
-    let wall = state.wall;
-    let window = state.window;
     match steps::take(wall, part, row, next) {
         Taken::Took(took) => {
-            let said = tell(
-                asked,
-                wall,
-                took,
-                part,
-                row,
-                search.largest,
-                output,
-                state.text,
-            );
+            let told = tell(asked, wall, took, part, row, largest, output, at);
             copy(next, row);
-            let after = said.wall;
-            Search {
-                state: State {
-                    wall: after,
-                    window,
-                    text: said.end,
-                },
-                largest: said.largest,
-            }
+            told
         }
-        Taken::Unfit => search,
+        Taken::Unfit => Told {
+            wall,
+            largest,
+            end: at,
+        },
     }
 }

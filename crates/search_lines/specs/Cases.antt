@@ -4,8 +4,8 @@ use mathlib.Core.Path.{_≡_}
 use mathlib.Core.List.{[], _∷_}
 use Rattle.settings.specs.Settings.{settings}
 use Rattle.settings.specs.declared.Settings.{Settings}
+use Rattle.file.specs.Cases.{printed}
 use Rattle.search_lines.specs.Text.{faulty-word, largest-word, line-text, gap-text}
-use Rattle.search_lines.specs.Ascii.{ascii}
 
 -- W 10, R 5, d 100, u 10, A 400, r 0, h 12
 unfoldable pub wall : Settings
@@ -15,9 +15,9 @@ wall = settings 10 5 100 10 400 0 12
 -- `faulty ROW COLUMN`
 unfoldable pub Line-cases : Type 0
 Line-cases =
-    (gap-text wall 80 0 [] ≡ ascii "b 0 80\n")
-    × (gap-text wall 80 2 (5 ∷ 3 ∷ []) ≡ ascii "b 2 80\nr 2 5 258 3\nr 2 3 256 1\n")
-    × (gap-text wall 80 2 (6 ∷ 3 ∷ 2 ∷ 1 ∷ []) ≡ ascii "b 2 80\nr 2 3 256 1\n")
-    × (line-text largest-word (1099511627872 ∷ []) ≡ ascii "largest 1099511627872\n")
-    × (line-text largest-word (0 ∷ []) ≡ ascii "largest 0\n")
-    × (line-text faulty-word (2 ∷ 13 ∷ []) ≡ ascii "faulty 2 13\n")
+    (gap-text wall 80 0 [] ≡ printed ("b 0 80" ∷ []))
+    × (gap-text wall 80 2 (5 ∷ 3 ∷ []) ≡ printed ("b 2 80" ∷ "r 2 5 258 3" ∷ "r 2 3 256 1" ∷ []))
+    × (gap-text wall 80 2 (6 ∷ 3 ∷ 2 ∷ 1 ∷ []) ≡ printed ("b 2 80" ∷ "r 2 3 256 1" ∷ []))
+    × (line-text largest-word (1099511627872 ∷ []) ≡ printed ("largest 1099511627872" ∷ []))
+    × (line-text largest-word (0 ∷ []) ≡ printed ("largest 0" ∷ []))
+    × (line-text faulty-word (2 ∷ 13 ∷ []) ≡ printed ("faulty 2 13" ∷ []))

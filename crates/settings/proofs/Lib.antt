@@ -1,2 +1,4 @@
 pub mod Laws
+pub mod Cases
 pub mod Promises
+pub mod Limits

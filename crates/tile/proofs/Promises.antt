@@ -1,24 +1,25 @@
 -- The proofs of what specs/Promises.antt states. Assumes nothing.
-use mathlib.Core.Path.{sym, _∙_, ap, subst}
+use mathlib.Core.Path.{_≡_, sym, _∙_, ap}
 use mathlib.Core.Option.{some}
-use Prim.Native.Nat.{ℕ, _+_, _*_, _^_, _≤_, _<_}
+use Prim.Native.Nat.{ℕ}
 use native.Mathlib.Omega.{arith}
 use Rattle.settings.specs.Settings.{step-of, checked}
-use Rattle.rule.specs.Stamp.{heard, silent, earliest, latest, latest-stamp}
+use Rattle.rule.specs.Stamp.{earlier, later, earliest, latest, latest-stamp}
+use Rattle.rule.specs.Signed.{natural}
 use Rattle.rule.specs.Forward.{P, correction}
-use Rattle.tile.specs.Tile.{stamp-at, own-stamp, neighbour-stamps, tile-refusal, answered, number-of}
-use Rattle.rule.specs.Pulse.{tile-P}
+use Rattle.tile.specs.Tile.{silent-at, reading-at, stamp-from, stamp-at, own-stamp, neighbour-places, neighbour-stamps, tile-refusal, answered, number-of, correction-of}
+use Rattle.tile.specs.Cases.{reading-in, marked-in, stamps, heard as at}
 use Rattle.rule.specs.Promises.{Tile, P-exact}
-use Rattle.tile.specs.Promises.{Tile-answered, Past-count, P-range}
+use Rattle.tile.specs.Promises.{Tile-answered, Past-count, P-range, correction-most, Correction-range, Correction-ends}
 use Rattle.settings.specs.declared.Settings.{Settings}
 use Rattle.tile.specs.declared.Stamps.{Stamps}
 use Rattle.settings.proofs.Laws.Cases.{by-zero}
-use Rattle.settings.proofs.Laws.Settings.{limits}
-use Rattle.rule.proofs.Laws.Signed.{minus-fits}
-use Rattle.rule.proofs.Laws.Stamp.{By, heard-by, earliest-by, latest-by}
-use Rattle.tile.proofs.Laws.{Accepted, accepted, stamped, answer-number, answer-P, answer-correction, forwarded-accepted, forwarded-refused, forwarded-alike}
+use Rattle.settings.proofs.Laws.Settings.{limits, step-small}
+use Rattle.rule.proofs.Laws.Stamp.{earliest-by, latest-by}
 use Rattle.rule.proofs.Laws.Forward.{P-most}
 use Rattle.rule.proofs.Promises.{closed, p-exact}
+use Rattle.tile.proofs.Laws.{Accepted, accepted, stamped, answer-number, answer-P, answer-correction, forwarded-accepted, forwarded-refused, forwarded-alike}
+use Rattle.tile.proofs.Range.{corrected, late-own, early-own, late-accepted, early-accepted}
 
 -- a tile that is not turned away has stamps that the rule takes
 tile-of : {s : Settings} {x : Stamps} → Accepted s x → Tile s (neighbour-stamps x)
@@ -45,11 +46,23 @@ unfolding P-range own-stamp
 p-range s x e =
     let a = accepted s x e in
     let t = stamped a in
-    let k = limits s (a .settings) in
-    let small : tile-P s (stamp-at x 0) (neighbour-stamps x) ≤ latest-stamp + 3 * s .unit =
     rw (closed (stamp-at x 0) (tile-of a))
-    (P-most (k .unit .0) (step-of s) (t .heard-enough) (t .ordered) (t .own-by) (earliest-by (t .all-by)) (latest-by (t .all-by))) in
-    (small, λ o q. minus-fits o (tile-P s (stamp-at x 0) (neighbour-stamps x)) (heard-small (subst (By latest-stamp) q (t .own-by))) (omega (arith, k .unit .1)))
-  where
-    heard-small : {o : ℕ} → By latest-stamp (heard o) → o < 2 ^ 63
-    heard-small (heard-by i) = omega arith
+    (P-most (limits s (a .settings) .unit .0) (step-of s) (t .heard-enough) (t .ordered) (t .own-by) (earliest-by (t .all-by)) (latest-by (t .all-by)))
+
+pub correction-range : Correction-range
+unfolding Correction-range Tile-answered own-stamp correction-of
+correction-range s x c e =
+    by-zero (tile-refusal s x)
+    (λ z. let a = accepted s x z in
+    let t = stamped a in
+    corrected s c (limits s (a .settings)) (t .heard-enough) (t .ordered) (t .own-by) (earliest-by (t .all-by)) (sym (tile-answered s x .1 z .1) ∙ e))
+    (λ n. let never : _≡_ {A = ℕ} 0 1 = cc (forwarded-refused s x n) in let no : ⊥ = omega arith in absurd no)
+
+pub correction-ends : Correction-ends
+unfolding Correction-ends Tile-answered correction-most step-of own-stamp neighbour-stamps neighbour-places stamp-at stamp-from silent-at reading-at natural stamps reading-in marked-in earliest latest earlier later
+correction-ends s ok =
+    let k = limits s ok in
+    let j = step-small (s .unit) (s .drift) (k .unit .0) (k .drift) in (
+      tile-answered s (stamps 2 (at latest-stamp) (at 0) (at 0) (at 0)) .1 (late-accepted s ok) .1 ∙ late-own (k .unit .0) (step-of s) (k .unit .1) j,
+      tile-answered s (stamps 2 (at 0) (at latest-stamp) (at latest-stamp) (at 0)) .1 (early-accepted s ok) .1 ∙ early-own (k .unit .0) (step-of s),
+    )

@@ -1,2 +1,3 @@
 pub mod Tile
+pub mod Cases
 pub mod Promises

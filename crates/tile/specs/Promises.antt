@@ -3,14 +3,16 @@
 use mathlib.Core.Path.{_≡_}
 use mathlib.Core.Bool.{false}
 use mathlib.Core.Option.{some}
-use Prim.Native.Nat.{ℕ, _+_, _*_, _≤_}
-use lib.IntN.{pos, _-ℤ_}
+use Prim.Native.Nat.{ℕ, _+_, _-_, _*_, _≤_}
+use lib.IntN.{ℤ, pos, negℤ}
+use lib.Signed.{_≤ℤ_}
 use mir.Syntax.{w64}
 use mir.Val.{SFits}
-use Rattle.settings.specs.Settings.{step-of}
-use Rattle.rule.specs.Stamp.{heard, earliest, latest, latest-stamp}
+use Rattle.settings.specs.Settings.{step-of, settings-refusal}
+use Rattle.rule.specs.Stamp.{earliest, latest, latest-stamp}
 use Rattle.rule.specs.Forward.{correction}
 use Rattle.tile.specs.Tile.{silent-at, reading-at, own-stamp, neighbour-stamps, tile-refusal, forwarded, number-of, P-of, correction-of}
+use Rattle.tile.specs.Cases.{heard, stamps}
 use Rattle.rule.specs.Pulse.{tile-P}
 use Rattle.settings.specs.declared.Settings.{Settings}
 use Rattle.tile.specs.declared.Stamps.{Stamps}
@@ -30,9 +32,23 @@ Past-count =
     (s : Settings) (x y : Stamps) → x .count ≡ y .count → ((k : ℕ) → k ≤ x .count → silent-at x k ≡ silent-at y k) →
     ((k : ℕ) → k ≤ x .count → silent-at x k ≡ false → reading-at x k ≡ reading-at y k) → forwarded s x ≡ forwarded s y
 
--- for accepted stamps P is from 0 to 2^41 - 1 + 3h, and the correction is an i64
+-- for accepted stamps P is from 0 to 2^41 - 1 + 3h
 unfoldable pub P-range : Type 0
 P-range =
-    (s : Settings) (x : Stamps) → tile-refusal s x ≡ 0 →
-    let p = tile-P s (own-stamp x) (neighbour-stamps x) in
-    (p ≤ latest-stamp + 3 * s .unit) × ((o : ℕ) → own-stamp x ≡ heard o → SFits w64 (pos o -ℤ pos p))
+    (s : Settings) (x : Stamps) → tile-refusal s x ≡ 0 → tile-P s (own-stamp x) (neighbour-stamps x) ≤ latest-stamp + 3 * s .unit
+
+-- the correction, where there is one, is an i64 from -(2^41 - 1 - 3h) to 2^41 - 1 - 3h
+unfoldable pub correction-most : Settings → ℕ
+correction-most s = latest-stamp - 3 * s .unit
+
+unfoldable pub Correction-range : Type 0
+Correction-range =
+    (s : Settings) (x : Stamps) (c : ℤ) → correction-of (forwarded s x) ≡ some c →
+    SFits w64 c × (negℤ (pos (correction-most s)) ≤ℤ c) × (c ≤ℤ pos (correction-most s))
+
+-- and meets both ends under all settings that pass: where own is as late as can be and the neighbours at 0, and the other way
+unfoldable pub Correction-ends : Type 0
+Correction-ends =
+    (s : Settings) → settings-refusal s ≡ 0 →
+    (correction-of (forwarded s (stamps 2 (heard latest-stamp) (heard 0) (heard 0) (heard 0))) ≡ some (pos (correction-most s)))
+    × (correction-of (forwarded s (stamps 2 (heard 0) (heard latest-stamp) (heard latest-stamp) (heard 0))) ≡ some (negℤ (pos (correction-most s))))

@@ -31,7 +31,7 @@ pub enum Forwarded {
 
 impl Stamps {
     // The latest stamp that is accepted.
-    pub const LATEST: i64 = 2_199_023_255_551;
+    pub const LATEST: i64 = forwarding::LATEST as i64;
 }
 
 pub fn forward(settings: Settings, stamps: Stamps) -> Forwarded
@@ -146,7 +146,7 @@ fn answer(settings: Settings, own: u64, least: u64, most: u64) -> Forwarded
     requires { ⌜ Forwardable (settings .unit) (step-of settings) own least most ⌝ }
     ensures { λ r. ⌜ r ≡ answered settings (stamp-of own) (stamp-of least) (stamp-of most) ⌝ }
 {
-    let p = forwarding::forward(
+    let p = forwarding::adopted(
         settings.unit,
         settings::step(settings.unit, settings.drift),
         own,

@@ -2,6 +2,7 @@
 use mathlib.Core.Path.{_≡_}
 use mathlib.Core.Bool.{Bool, true, false, cond, _&&_}
 use mathlib.Core.List.{List}
+use mathlib.Core.Option.{Option, none, some}
 use Prim.Native.Nat.{ℕ, _+_}
 use lib.Dec.{leb}
 use lib.ListN.{length}
@@ -22,6 +23,16 @@ fits x n room at = leb (at + step-room) room && wall-fits x n
 -- the answer: the wall of the step, and where its text ends
 unfoldable pub went-to : Stepped → (at : ℕ) → Went
 went-to o at = record { wall = o .next; end = at + length (texts-of (o .shows)) }
+
+-- what an answer means: the wall afterwards, and where the text ends; what does not fit has neither. The number of a refusal, and its
+-- offset, are in the text
+unfoldable pub wall-of : Answer → Option Wall
+wall-of (step.Went w) = some (w .wall)
+wall-of step.Unfit = none
+
+unfoldable pub end-of : Answer → Option ℕ
+end-of (step.Went w) = some (w .end)
+end-of step.Unfit = none
 
 -- what the operation answers and leaves: a step of the definition where all fits, otherwise nothing has changed
 pub record Stepping (x : Wall) (part row held : List ℕ) (at : ℕ) (answer : Answer) (row-after out : List ℕ) : Type 0 where

@@ -23,7 +23,9 @@ fn case(i: usize) {
         os::fail(name);
         return;
     }
-    match print::run(file, STDOUT_FILENO) {
+    let outcome = print::run(file, STDOUT_FILENO);
+    let ended = outcome.ended;
+    match ended {
         Ended::Done => {}
         Ended::ReadFailed => os::fail(name),
         Ended::WriteFailed => os::fail(name),

@@ -4,7 +4,9 @@ use libc::STDOUT_FILENO;
 use stream::Ended;
 
 fn main() {
-    match print::run(STDIN_FILENO, STDOUT_FILENO) {
+    let outcome = print::run(STDIN_FILENO, STDOUT_FILENO);
+    let ended = outcome.ended;
+    match ended {
         Ended::Done => {}
         Ended::ReadFailed => os::fail(b"wallrun: reading"),
         Ended::WriteFailed => os::fail(b"wallrun: writing"),

@@ -6,11 +6,11 @@ use Prim.Native.Nat.{ℕ, _+_, _-_, _≤_, _<_}
 use lib.Dec.{ltb}
 use lib.ListN.{length, take, drop}
 use Rattle.window.specs.declared.Window.{Window}
-use Rattle.window.specs.declared.Filled.{Filled}
-use Rattle.window.specs.declared.Filled.the-variants.{Ready, Failed}
+use Rattle.window.specs.declared.Reading.{Reading}
+use Rattle.window.specs.declared.Reading.the-variants.{Ready, Failed}
 
 -- a window in a buffer of n bytes
-pub record Within (w : Window) (n : ℕ) : Type 0 where
+pub record In-buffer (w : Window) (n : ℕ) : Type 0 where
   pub ordered : w .start ≤ w .end
   pub inside : w .end ≤ n
 
@@ -24,7 +24,7 @@ lacking w due = cond (w .ended) false (ltb (w .end - w .start) due)
 
 -- the same bytes, at a place where the due part fits
 pub record Placed (w : Window) (due : ℕ) (before : List ℕ) (r : Window) (after : List ℕ) : Type 0 where
-  pub within : Within r (length after)
+  pub within : In-buffer r (length after)
   pub size : r .end - r .start ≡ w .end - w .start
   pub same : bytes-in r after ≡ bytes-in w before
   pub fits : r .start + due ≤ length after
@@ -32,22 +32,22 @@ pub record Placed (w : Window) (due : ℕ) (before : List ℕ) (r : Window) (aft
 
 -- what one read leaves: the bytes up to the window's end stay, and the window has grown, or the input has ended
 pub record Read-on (w : Window) (before : List ℕ) (r : Window) (after : List ℕ) : Type 0 where
-  pub within : Within r (length after)
+  pub within : In-buffer r (length after)
   pub start : r .start ≡ w .start
   pub kept : take (w .end) after ≡ take (w .end) before
   pub grown : w .end ≤ r .end
   pub more : r .ended ≡ false → w .end < r .end
 
-unfoldable pub read-on : Window → (before : List ℕ) → Filled → (after : List ℕ) → Type 0
+unfoldable pub read-on : Window → (before : List ℕ) → Reading → (after : List ℕ) → Type 0
 read-on w before (Ready r) after = Read-on w before r after
 read-on w before Failed after = Unit {0}
 
 -- what is read comes behind what stood in the window, and the due part is whole or the input has ended
 pub record Filled-up (w : Window) (due : ℕ) (before : List ℕ) (r : Window) (after : List ℕ) : Type 0 where
-  pub within : Within r (length after)
+  pub within : In-buffer r (length after)
   pub first : take (w .end - w .start) (bytes-in r after) ≡ bytes-in w before
   pub enough : lacking r due ≡ false
 
-unfoldable pub filled-up : Window → (due : ℕ) → (before : List ℕ) → Filled → (after : List ℕ) → Type 0
+unfoldable pub filled-up : Window → (due : ℕ) → (before : List ℕ) → Reading → (after : List ℕ) → Type 0
 filled-up w due before (Ready r) after = Filled-up w due before r after
 filled-up w due before Failed after = Unit {0}

@@ -3,7 +3,7 @@ ghost use mathlib.Core.Path.{_≡_};
 ghost use mathlib.Core.Bool.{false};
 ghost use Prim.Native.Nat.{_+_, _-_, _≤_, _<_, min};
 ghost use lib.ListN.{length, take, drop};
-ghost use Rattle.window.specs.Window.{Within, lacking, Placed, read-on, filled-up};
+ghost use Rattle.window.specs.Window.{In-buffer, lacking, Placed, read-on, filled-up};
 
 pub struct Window {
     pub start: usize,
@@ -12,7 +12,7 @@ pub struct Window {
     pub ended: bool,
 }
 
-pub enum Filled {
+pub enum Reading {
     Ready(Window),
     // A read failed.
     Failed,
@@ -45,20 +45,20 @@ impl Window {
 }
 
 // Reads until the due part is in the window or the input has ended; not at all where nothing is lacking.
-pub fn fill(from: i32, window: Window, due: usize, input: &mut [u8]) -> Filled
-    requires { ⌜ Within window (length (now input)) × (due ≤ length (now input)) ⌝ }
-    ensures idle { λ r. ⌜ (lacking window due ≡ false → (r ≡ Filled.Ready window) × (now (input .exit) ≡ now (input .entry))) ⌝ }
+pub fn fill(from: i32, window: Window, due: usize, input: &mut [u8]) -> Reading
+    requires { ⌜ In-buffer window (length (now input)) × (due ≤ length (now input)) ⌝ }
+    ensures idle { λ r. ⌜ (lacking window due ≡ false → (r ≡ Reading.Ready window) × (now (input .exit) ≡ now (input .entry))) ⌝ }
     ensures filled { λ r. ⌜ filled-up window due (now (input .entry)) r (now (input .exit)) ⌝ }
 {
     if !window.lacks(due) {
-        return Filled::Ready(window);
+        return Reading::Ready(window);
     }
     read_part(from, placed(window, due, input), due, input)
 }
 
 // The window where it is, or at the front of the buffer where it is empty or the due part does not fit behind its start.
 fn placed(window: Window, due: usize, input: &mut [u8]) -> Window
-    requires { ⌜ Within window (length (now input)) × (due ≤ length (now input)) ⌝ }
+    requires { ⌜ In-buffer window (length (now input)) × (due ≤ length (now input)) ⌝ }
     ensures { λ r. ⌜ Placed window due (now (input .entry)) r (now (input .exit)) ⌝ }
 {
     let start = window.start;
@@ -89,36 +89,37 @@ fn to_front(input: &mut [u8], start: usize, count: usize)
 }
 
 // Reads behind the window, which has room, until the due part is there.
-fn read_part(from: i32, window: Window, due: usize, input: &mut [u8]) -> Filled
-    requires { ⌜ Within window (length (now input)) × (window .start + due ≤ length (now input)) ⌝ }
+fn read_part(from: i32, window: Window, due: usize, input: &mut [u8]) -> Reading
+    requires { ⌜ In-buffer window (length (now input)) × (window .start + due ≤ length (now input)) ⌝ }
     ensures { λ r. ⌜ filled-up window due (now (input .entry)) r (now (input .exit)) ⌝ }
 {
     let mut window = window;
     while window.lacks(due) {
-        match read_once(from, window, input) {
-            Filled::Ready(next) => {
+        match take_in(from, window, input) {
+            Reading::Ready(next) => {
                 window = next;
             }
-            Filled::Failed => {
-                return Filled::Failed;
+            Reading::Failed => {
+                return Reading::Failed;
             }
         }
     }
-    Filled::Ready(window)
+    Reading::Ready(window)
 }
 
-// Reads once, behind the window. With room there, no byte means that the input has ended.
-fn read_once(from: i32, window: Window, input: &mut [u8]) -> Filled
+// Takes bytes in from the system, behind the window; the edge of the proof on that side. With room there, no byte
+// means that the input has ended.
+fn take_in(from: i32, window: Window, input: &mut [u8]) -> Reading
     requires { ⌜ (window .start ≤ window .end) × (window .end < length (now input)) ⌝ }
     ensures { λ r. ⌜ read-on window (now (input .entry)) r (now (input .exit)) ⌝ }
 {
     let end = window.end;
     let got = libc::read(from, &mut input[end..]);
     if got < 0 {
-        return Filled::Failed;
+        return Reading::Failed;
     }
     let n = io::count(got, &input[end..]);
-    Filled::Ready(Window {
+    Reading::Ready(Window {
         start: window.start,
         end: end + n,
         ended: n == 0,

@@ -9,14 +9,15 @@ use native.Mathlib.Omega.{arith}
 use borrow.Author.Tests.{le-ltb}
 use Rattle.settings.proofs.Laws.Cases.{by-order}
 use Rattle.columns.specs.Columns.{predecessors}
-use Rattle.columns.specs.Marks.{marked, faulty-among, Quiet}
+use Rattle.columns.specs.Marks.{marked, faulty-among}
+use Rattle.columns.specs.Plain.{Quiet}
 use Rattle.admission.specs.Refusal.{crowded}
 use Rattle.columns.specs.Window.{four-senders}
 use Rattle.columns.proofs.Laws.Columns.{four-no}
 use Rattle.columns.proofs.Laws.Lists.{by-test}
 use Rattle.columns.proofs.Laws.Window.{digit, digit-most, sender-low, sender-inner, faulty-three, faulty-four}
 
-unmarked : (ms : List ℕ) (k : ℕ) → getD ms (k / 8) 0 ≡ 0 → marked ms k ≡ false
+pub unmarked : (ms : List ℕ) (k : ℕ) → getD ms (k / 8) 0 ≡ 0 → marked ms k ≡ false
 unfolding marked
 unmarked ms k e = rw (e, zero-div (2 ^ (k % 8)))
 

@@ -7,7 +7,8 @@ use native.Mathlib.Omega.{arith}
 use borrow.Author.Tests.{lt-ltb, le-ltb}
 use Rattle.settings.specs.Refusal.{any-below}
 use Rattle.columns.specs.Columns.{predecessors}
-use Rattle.columns.specs.Marks.{faulty-among, Quiet}
+use Rattle.columns.specs.Marks.{faulty-among}
+use Rattle.columns.specs.Plain.{Quiet}
 use Rattle.admission.specs.Refusal.{crowded}
 use Rattle.settings.proofs.Laws.AnyBelow.{some-below, none-at-zero, none-below-more, none-below-on}
 use Rattle.admission.proofs.Laws.Quiet.{quiet-tile}

@@ -4,7 +4,8 @@ use mathlib.Core.Bool.{true≢false}
 use native.Mathlib.Omega.{arith}
 use borrow.Author.Tests.{not-true, not-false}
 use borrow.Author.Needs.{needs}
-use Rattle.columns.specs.Marks.{mark-bytes, Quiet}
+use Rattle.columns.specs.Marks.{mark-bytes}
+use Rattle.columns.specs.Plain.{Quiet}
 use Rattle.columns.proofs.plain.Statement.{statement}
 use Rattle.columns.proofs.plain.Tie as tie
 

@@ -28,7 +28,7 @@ returns-3 c = λ e.
     let a = c .before .before .before .args in
     record {
       starts = c .before .before .if1 .left;
-      inside = c .before .if2 .left;
+      inside = omega (arith, c .before .if2 .left);
       none = eqb-true (getD (a .marks .now) (a .c / 8) 0) 0 e;
     }
 

@@ -6,7 +6,7 @@ use native.Mathlib.Omega.{arith}
 use borrow.Author.Tests.{lt-ltb, le-ltb}
 use Rattle.settings.specs.Refusal.{any-below}
 use Rattle.settings.proofs.Laws.AnyBelow.{some-below, none-below-more, none-at-zero}
-use Rattle.contents.specs.Contents.{times-in, late-start}
+use Rattle.contents.specs.Contents.{times-in, latest-start, late-start}
 use Rattle.contents.proofs.Laws.Contents.{time-at}
 use Rattle.contents.proofs.late_start.Statement.{statement}
 use Rattle.contents.proofs.late_start.Tie as tie
@@ -34,7 +34,7 @@ returns c =
     sym
     (some-below (late-start (times-in (s .args .width) (s .args .body .now))) (s .args .width) (l .loop .c) (c .before .before .loop-test .taken)
     (rw (time-at (s .args .width) (s .args .body .now) (l .loop .c) (c .before .before .loop-test .taken), ← c .before .eight .ensures)
-    (lt-ltb 549755813887 (c .before .eight .result) (c .if1 .taken))))
+    (lt-ltb latest-start (c .before .eight .result) (c .if1 .taken))))
 
 add-c : tie.Need-add-c Inv-loop μ-loop
 add-c c = omega arith
@@ -50,7 +50,7 @@ loop-again c =
       omega arith,
       none-below-more (late-start (times-in (s .args .width) (s .args .body .now))) (l .loop .c) (l .loop .inv .1)
           (rw (time-at (s .args .width) (s .args .body .now) (l .loop .c) (c .before .before .loop-test .taken), ← c .before .eight .ensures)
-          (le-ltb 549755813887 (c .before .eight .result) (c .if1 .left))),
+          (le-ltb latest-start (c .before .eight .result) (c .if1 .left))),
     )
 
 returns-2 : tie.Need-returns-2 Inv-loop μ-loop

@@ -7,11 +7,13 @@ use lib.Dec.{ltb, eqb}
 use lib.ListN.{length, getD, take, drop, length-drop, drop-of-length-le}
 use lib.Seq.{take-all, take-nil}
 use native.Mathlib.Omega.{arith}
-use borrow.Author.Tests.{eq-eqb, ne-eqb, ltb-false, lt-ltb, le-ltb}
+use borrow.Author.Tests.{eq-eqb, ne-eqb, eqb-true, not-false, ltb-false, lt-ltb, le-ltb}
 use Rattle.settings.specs.Refusal.{first, _when_}
 use Rattle.settings.proofs.Laws.Refusal.{skip, hit, end, unhit}
 use Rattle.fields.specs.Bytes.{big-endian}
 use Rattle.fields.specs.Field.{field-tests, field-refusal, body, or-else}
+use Rattle.fields.specs.Limits.{Field-there}
+use Rattle.fields.proofs.Laws.Bytes.{two-bytes}
 
 module _ (n m : ℕ) where
   pub else-other : n ≡ 0 → or-else n m ≡ m
@@ -27,13 +29,21 @@ else-none zero m e = (refl, sym (else-other 0 m refl) ∙ e)
 else-none (suc n) m e = let never : ⊥ = omega (arith, else-first (suc n) m (λ q. omega arith)) in absurd never
 
 -- an accepted field is there, whole
-pub field-there : (tag size : ℕ) (bs : List ℕ) → field-refusal tag size bs ≡ 0 → 3 + size ≤ length bs
+pub field-accepted : (tag size : ℕ) (bs : List ℕ) → field-refusal tag size bs ≡ 0 → Field-there tag size bs
 unfolding field-refusal field-tests
-field-there tag size bs e =
+field-accepted tag size bs e =
     let a = unhit 42 (ltb (length bs) 3) _ e in
     let b = unhit 40 (not (eqb (getD bs 0 0) tag)) _ (a .1) in
     let c = unhit 41 (not (eqb (big-endian 2 bs 1) size)) _ (b .1) in
-    ltb-false (length bs) (3 + size) (unhit 42 (ltb (length bs) (3 + size)) _ (c .1) .0)
+    let d = unhit 42 (ltb (length bs) (3 + size)) _ (c .1) in
+    record {
+      tag-due = eqb-true (getD bs 0 0) tag (not-false _ (b .0));
+      size-due = omega (arith, two-bytes bs 1, eqb-true (big-endian 2 bs 1) size (not-false _ (c .0)));
+      whole = ltb-false (length bs) (3 + size) (d .0);
+    }
+
+pub field-there : (tag size : ℕ) (bs : List ℕ) → field-refusal tag size bs ≡ 0 → 3 + size ≤ length bs
+field-there tag size bs e = field-accepted tag size bs e .whole
 
 -- the number, by the first test that applies
 module _ (tag size : ℕ) (bs : List ℕ) where

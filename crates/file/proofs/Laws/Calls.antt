@@ -2,6 +2,7 @@
 use mathlib.Core.Path.{_≡_, refl, sym, _∙_, ap}
 use mathlib.Core.Bool.{true}
 use mathlib.Core.List.{List, [], _∷_, _++_, append-assoc}
+use mathlib.Core.Option.{none, some}
 use Prim.Native.Nat.{ℕ, zero, suc, _+_, _≤_}
 use lib.ListN.{length, take, drop}
 use lib.Seq.{drop-at, length-take-le}
@@ -14,12 +15,11 @@ use Rattle.steps.specs.Number.{start-number}
 use Rattle.file.specs.File.{wall-text}
 use Rattle.steps.specs.Step.{stepped, away, step-of, steps-shown}
 use Rattle.stages.specs.Fit.{due-size, due-of, wall-fits}
-use Rattle.wall.specs.Operation.{fits, went-to, Stepping}
+use Rattle.wall.specs.Operation.{fits, went-to, wall-of, end-of, Stepping}
 use Rattle.file.specs.Program.{Calls, over, lent, took}
 use Rattle.stages.specs.declared.Place.{Place}
 use Rattle.stages.specs.declared.Wall.{Wall}
 use Rattle.stages.specs.declared.Wall.the-variants.{New, Start}
-use Rattle.wall.specs.declared.Went.{Went}
 use Rattle.wall.specs.declared.Answer.{Answer}
 use Rattle.wall.specs.declared.Answer.the-variants as step
 use Rattle.wall.proofs.Laws.Fit.{fits-all}
@@ -27,13 +27,13 @@ use Rattle.stages.proofs.Laws.{fits-due}
 use Rattle.steps.proofs.Laws.Taken.{start-goes, start-away}
 use Rattle.file.proofs.Laws.Steps.{one-step, nothing-more, steps-right}
 
-texts-append : (xs ys : List Shown) → texts-of (xs ++ ys) ≡ texts-of xs ++ texts-of ys
+pub texts-append : (xs ys : List Shown) → texts-of (xs ++ ys) ≡ texts-of xs ++ texts-of ys
 unfolding texts-of
 texts-append [] ys = refl
 texts-append (x ∷ xs) ys = ap (λ (t : List ℕ). text-of x ++ t) (texts-append xs ys) ∙ sym (append-assoc (text-of x) (texts-of xs) (texts-of ys))
 
 -- the row lent for row 0 does not matter
-any-row : (n : ℕ) (p : Place) (ts us bs : List ℕ) → steps-shown n (Start p) ts bs ≡ steps-shown n (Start p) us bs
+pub any-row : (n : ℕ) (p : Place) (ts us bs : List ℕ) → steps-shown n (Start p) ts bs ≡ steps-shown n (Start p) us bs
 unfolding step-of stepped away
 any-row zero p ts us bs = unfold steps-shown in refl
 any-row (suc n) p ts us bs =
@@ -51,25 +51,36 @@ any-row (suc n) p ts us bs =
     ))
 
 -- a call that went was one that fits, and its text is the step's
-module _ (x : Wall) (part row held : List ℕ) (at : ℕ) (answer : Answer) (went : Went) (row-after out : List ℕ) (i : at ≤ length held)
-    (d : Stepping x part row held at answer row-after out) (e : answer ≡ step.Went went) where
+module _ (x : Wall) (part row held : List ℕ) (at : ℕ) (answer : Answer) (next : Wall) (end : ℕ) (row-after out : List ℕ)
+    (d : Stepping x part row held at answer row-after out) (e : wall-of answer ≡ some next) (f : end-of answer ≡ some end) where
   did-fit : fits x (length row) (length held) at ≡ true
+  unfolding wall-of
   did-fit =
       by-test (fits x (length row) (length held) at)
       (λ t. t)
-      (λ t. let f : answer ≡ step.Unfit = rw t at (d .answered) in
+      (λ t. let is : answer ≡ step.Unfit = rw t at (d .answered) in
+      let none-some : none ≡ some next = sym (ap wall-of is) ∙ e in
       let never : _≡_ {A = ℕ} 0 1 = cc in
       absurd (let g : ⊥ = omega arith in g))
 
-  its-went : went ≡ went-to (step-of x row part) at
-  its-went = let f : answer ≡ step.Went (went-to (step-of x row part) at) = rw did-fit at (d .answered) in cc
+  its-answer : answer ≡ step.Went (went-to (step-of x row part) at)
+  its-answer = rw did-fit at (d .answered)
+
+  its-wall : next ≡ step-of x row part .next
+  unfolding wall-of went-to
+  its-wall = let same : some (step-of x row part .next) ≡ some next = sym (ap wall-of its-answer) ∙ e in cc
+
+  its-end : end ≡ at + length (texts-of (step-of x row part .shows))
+  unfolding end-of went-to
+  its-end = let same : some (at + length (texts-of (step-of x row part .shows))) ≡ some end = sym (ap end-of its-answer) ∙ f in cc
 
   its-row : row-after ≡ step-of x row part .row
   its-row = rw did-fit at (d .row-left)
 
-  its-text : drop at (take (went .end) out) ≡ texts-of (step-of x row part .shows)
-  unfolding went-to
-  its-text = rw (its-went, d .text did-fit .holds) (drop-at (take at held) _ at (length-take-le at held i))
+  its-text : drop at (take end out) ≡ texts-of (step-of x row part .shows)
+  its-text =
+      rw (its-end, d .text did-fit .holds)
+      (drop-at (take at held) _ at (length-take-le at held (omega (arith, fits-all x (length row) (length held) at did-fit .0))))
 
 -- the text of one step and of those after it
 step-then : (m : ℕ) (x : Wall) (n : ℕ) (row rest : List ℕ) → wall-fits x n ≡ true →
@@ -83,31 +94,31 @@ record Shows (x : Wall) (row rest text : List ℕ) : Type 0 where
   pub steps : ℕ
   pub shows : (n : ℕ) → steps ≤ n → texts-of (steps-shown n x row rest) ≡ text
 
-one-more : {x : Wall} {row rest text : List ℕ} (held : List ℕ) (at : ℕ) (answer : Answer) (went : Went) (row-after out : List ℕ) → at ≤ length held →
-    Stepping x (take (due-of x) rest) row held at answer row-after out → answer ≡ step.Went went → Shows (went .wall) row-after (drop (due-of x) rest) text →
-    Shows x row rest (drop at (take (went .end) out) ++ text)
-one-more {x} {row} {rest} {text} held at answer went row-after out i d e k = record { steps = suc (k .steps); shows = go }
+one-more : {x : Wall} {row rest text : List ℕ} (held : List ℕ) (at : ℕ) (answer : Answer) (next : Wall) (end : ℕ) (row-after out : List ℕ) →
+    Stepping x (take (due-of x) rest) row held at answer row-after out → wall-of answer ≡ some next → end-of answer ≡ some end →
+    Shows next row-after (drop (due-of x) rest) text → Shows x row rest (drop at (take end out) ++ text)
+one-more {x} {row} {rest} {text} held at answer next end row-after out d e f k = record { steps = suc (k .steps); shows = go }
   where
     part : List ℕ
     part = take (due-of x) rest
 
-    go : (n : ℕ) → suc (k .steps) ≤ n → texts-of (steps-shown n x row rest) ≡ drop at (take (went .end) out) ++ text
+    go : (n : ℕ) → suc (k .steps) ≤ n → texts-of (steps-shown n x row rest) ≡ drop at (take end out) ++ text
     go zero j = let never : ⊥ = omega arith in absurd never
     go (suc m) j =
         let o = step-of x row part in
-        let fit = fits-all x (length row) (length held) at (did-fit x part row held at answer went row-after out i d e) .1 in
-        let wall-same : went .wall ≡ o .next = unfold went-to in ap (λ (w : Went). w .wall) (its-went x part row held at answer went row-after out i d e) in
-        let row-same = its-row x part row held at answer went row-after out i d e in
+        let fit = fits-all x (length row) (length held) at (did-fit x part row held at answer next end row-after out d e f) .1 in
+        let wall-same = its-wall x part row held at answer next end row-after out d e f in
+        let row-same = its-row x part row held at answer next end row-after out d e f in
         step-then m x (length row) row rest fit
         ∙ ap (λ (t : List ℕ). texts-of (o .shows) ++ t) (rw (← wall-same, ← row-same) (k .shows m (omega arith)))
-        ∙ ap (λ (t : List ℕ). t ++ text) (sym (its-text x part row held at answer went row-after out i d e))
+        ∙ ap (λ (t : List ℕ). t ++ text) (sym (its-text x part row held at answer next end row-after out d e f))
 
 shows : {x : Wall} {row rest text : List ℕ} → Calls x row rest text → Shows x row rest text
 shows (over {row} {rest}) = record { steps = 0; shows = λ n i. rw (nothing-more n row rest) (unfold texts-of in refl) }
 shows (lent {p} {row} {rest} held c) =
     let k = shows c in
     record { steps = k .steps; shows = λ n i. rw (any-row n p held row rest) (k .shows n i) }
-shows (took held at answer went row-after out i d e c) = one-more held at answer went row-after out i d e (shows c)
+shows (took held at answer next end row-after out d e f c) = one-more held at answer next end row-after out d e f (shows c)
 
 pub calls-right : (row file text : List ℕ) → Calls New row file text → text ≡ wall-text file
 unfolding wall-text

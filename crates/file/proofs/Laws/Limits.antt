@@ -3,7 +3,7 @@
 use mathlib.Core.Path.{_≡_, refl, sym, _∙_}
 use mathlib.Core.Bool.{true, false, not, and-false}
 use mathlib.Core.List.{List, [], _∷_}
-use Prim.Native.Nat.{ℕ, _+_, _*_, _≤_, _<_}
+use Prim.Native.Nat.{ℕ, _+_, _*_, _/_, _≤_, _<_}
 use lib.ListN.{length, getD, drop}
 use borrow.Author.Tests.{eq-eqb, le-ltb}
 use Rattle.settings.specs.Refusal.{Test, _when_, first, any-below}
@@ -15,8 +15,11 @@ use Rattle.settings.proofs.Laws.Settings.{limits}
 use Rattle.admission.specs.Call.{Call, call}
 use Rattle.columns.specs.Marks.{marked, mark-bytes}
 use Rattle.admission.specs.Refusal.{lengths-are, lengths-right, stray-mark, late-time, crowded, fast, row-tests, row-refusal}
+use Rattle.admission.proofs.Laws.Limits.{None-applies, none-applies, within-limits}
 use Rattle.links.specs.Links.{bad-links}
 use Rattle.fields.specs.Field.{field-refusal}
+use Rattle.fields.specs.Limits.{Field-plain}
+use Rattle.fields.proofs.Limits.{field-plain}
 use Rattle.contents.specs.Contents.{tiles-size, marks-field, marks-in, tiles-in, drifts-in, links-in, call-in}
 use Rattle.steps.specs.Number.{row-number}
 use Rattle.file.specs.Limits.{Row-keeps}
@@ -63,16 +66,19 @@ module _ (s : Settings) (ts : List ℕ) (row : Early s ts) where
     limited e = rw (eq-eqb (settings-refusal s) 0 (row .pass), lengths-fit e, none-late (call-in (s .width) bs .marks))
 
     pub keeps : Row-keeps s bs → row-number s ts bs ≡ 0
-    unfolding row-number
+    unfolding row-number marks-field mark-bytes Field-plain
     keeps k =
+        let m = field-plain 3 ((s .width + 7) / 8) bs .0 (k .marks-there) in
+        let t = field-plain 4 (26 * s .width + 16) (drop (3 + (s .width + 7) / 8) bs) .0 (k .tiles-there) in
+        let none = none-applies s (call-in (s .width) bs .marks) (call-in (s .width) bs .drifts) (call-in (s .width) bs .links) (limits s (row .pass) .width .0) (k .within) in
         rw (
-          else-other (field-refusal 3 (mark-bytes (s .width)) bs) _ (k .marks-there),
-          else-other (field-refusal 4 (tiles-size (s .width)) (drop (marks-field (s .width)) bs)) _ (k .tiles-there),
-          limited (k .marks-there),
-        ) (skip 22 _ (k .no-stray) ∙ skip 24 _ (k .none-crowded) ∙ skip 25 _ (k .none-fast) ∙ end 26 (k .links-right))
+          else-other (field-refusal 3 ((s .width + 7) / 8) bs) _ m,
+          else-other (field-refusal 4 (26 * s .width + 16) (drop (3 + (s .width + 7) / 8) bs)) _ t,
+          limited m,
+        ) (skip 22 _ (none .none-stray) ∙ skip 24 _ (none .none-crowded) ∙ skip 25 _ (none .none-fast) ∙ end 26 (none .none-bad))
 
     pub kept : row-number s ts bs ≡ 0 → Row-keeps s bs
-    unfolding row-number
+    unfolding row-number marks-field mark-bytes Field-plain call-in call
     kept e =
         let x = call-in (s .width) bs in
         let a = else-none (field-refusal 3 (mark-bytes (s .width)) bs) _ e in
@@ -81,11 +87,9 @@ module _ (s : Settings) (ts : List ℕ) (row : Early s ts) where
         let crowd = unhit 23 (any-below (s .width) (crowded (s .width) (x .marks))) _ (stray .1) in
         let drift = unhit 24 (any-below (s .width) (fast (s .drift) (x .drifts))) _ (crowd .1) in
         let link = unhit 25 (any-below (s .width) (bad-links s (x .marks) (x .links))) _ (drift .1) in
+        let none : None-applies s (x .marks) (x .drifts) (x .links) = record { none-stray = stray .0; none-crowded = crowd .0; none-fast = drift .0; none-bad = link .0 } in
         record {
-          marks-there = a .0;
-          tiles-there = b .0;
-          no-stray = stray .0;
-          none-crowded = crowd .0;
-          none-fast = drift .0;
-          links-right = link .0;
+          marks-there = field-plain 3 (mark-bytes (s .width)) bs .1 (a .0);
+          tiles-there = field-plain 4 (tiles-size (s .width)) (drop (marks-field (s .width)) bs) .1 (b .0);
+          within = within-limits s (x .marks) (x .drifts) (x .links) (limits s (row .pass) .width .0) (marks-length (s .width) bs (a .0)) none;
         }

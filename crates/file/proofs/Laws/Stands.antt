@@ -65,14 +65,14 @@ module _ (s : Settings) (pass : settings-refusal s ≡ 0) where
   end-step-ahead l at ts bs true e = rw e (over-ahead 1 (omega arith))
   end-step-ahead l at ts bs false e = rw e (over-ahead 1 (omega arith))
 
-settings-step-ahead : (ts bs : List ℕ) (b : Bool) → eqb (settings-number bs) 0 ≡ b → Ahead (settings-step ts bs .next) 1027
+settings-step-ahead : (ts bs : List ℕ) (b : Bool) → eqb (settings-number bs) 0 ≡ b → Ahead (settings-step ts bs .next) (steps-left New)
 unfolding settings-step stepped away place Stands steps-left settings-number
 settings-step-ahead ts bs true e =
     let made = settings-in (body settings-size bs) in
     let number = else-none (field-refusal 1 settings-size bs) (settings-refusal made) (eqb-true (settings-number bs) 0 e) in
     let few = limits made (number .1) .rows .1 in
     rw e (record { stands = (record { pass = number .1; row = omega arith; offset = omega arith }, omega arith); less = omega arith })
-settings-step-ahead ts bs false e = rw e (over-ahead 1027 (omega arith))
+settings-step-ahead ts bs false e = rw e (over-ahead (steps-left New) (omega arith))
 
 -- a step on a wall that stands, with something due
 pub step-ahead : (x : Wall) (ts bs : List ℕ) → Stands x → (due-of x ≡ 0 → ⊥) → Ahead (step-of x ts bs .next) (steps-left x)

@@ -4,20 +4,23 @@ use Prim.Native.Nat.{_≤_}
 use native.Mathlib.Omega.{arith}
 use lib.ListN.{length}
 use lib.Seq.{length-take-le}
-use Rattle.print.proofs.Laws.{never-unfit, advanced}
+use Rattle.print.proofs.Laws.Advanced.{never-unfit, advanced}
 use borrow.Author.Needs.{needs}
 use Rattle.print.proofs.advance.Statement.{statement}
 use Rattle.print.proofs.advance.Tie as tie
 
--- the start of the function, from where the width is known
+-- the start of the function, from where the width is known, and the step from where it is told
 abbrev start : tie.After-width → tie.Start
-start w = w .before .before .before .before .before .before .before .before .before
+start w = w .before .before .before .before .before .before .before .before
+
+abbrev taken : tie.After-slice-known6 → tie.After-step-by
+taken c = c .before .before .before .before .before .before
+
+abbrev known : tie.After-step-by → tie.After-width
+known c = c .before .before .before .before .before
 
 wide : (w : tie.After-width) → w .width .result ≤ length (start w .args .row .now)
 wide w = omega (arith, w .width .ensures .1, start w .pre .3)
-
-due-requires : tie.Need-due-requires
-due-requires c κs = search needs
 
 part-end-requires : tie.Need-part-end-requires
 part-end-requires c κs = search needs
@@ -46,6 +49,9 @@ step-by-requires c κs = let s = start (c .before .before .before .before) in (s
 enum-known-went : tie.Need-enum-known-went
 enum-known-went c = search needs
 
+stepped-requires : tie.Need-stepped-requires
+stepped-requires c κs = known (taken (c .before .before .before)) .before .part-end .ensures
+
 enum-told : tie.Need-enum-told
 enum-told c = search needs
 
@@ -60,12 +66,11 @@ same-length-3 c = search needs
 
 returns : tie.Need-returns
 returns c =
-    let f = c .before .before .before .before .before .before .before .before .before in
-    let w = f .before .before .before .before .before in
+    let t = taken (c .before .before .before .before) in
+    let w = known t in
     let s = start w in
-    advanced (s .args .state) (s .args .input .now) (s .args .row .now) (s .args .output .now) (s .pre .2) (s .pre .4) _ _ _
-    (w .before .before .due .ensures .0) (w .before .part-end .ensures) (w .width .ensures .0) (wide w)
-    _ _ _ _ (f .step-by .ensures) (c .before .went .given .1) (search needs)
+    advanced (s .args .state) (s .args .input .now) (s .args .row .now) (s .args .output .now) (s .pre .2) (s .pre .4) _ _
+    (w .before .part-end .ensures) (w .width .ensures .0) (wide w) _ _ _ _ _ (t .step-by .ensures) (c .before .before .went .given .1) (c .stepped .ensures) (search needs)
 
 same-length-4 : tie.Need-same-length-4
 same-length-4 c = search needs
@@ -78,18 +83,17 @@ same-length-6 c = search needs
 
 returns-2 : tie.Need-returns-2
 returns-2 c =
-    let f = c .before .before .before .before .before .before .before .before in
-    let w = f .before .before .before .before .before in
+    let t = taken (c .before .before) in
+    let w = known t in
     let s = start w in
-    absurd (never-unfit (s .args .state) (s .args .input .now) (s .args .row .now) (s .args .output .now) (s .pre .2) (s .pre .4) _ _ _
-    (w .before .before .due .ensures .0) (w .before .part-end .ensures) (w .width .ensures .0) (wide w)
-    _ _ _ (f .step-by .ensures) (c .enum-told .given .1))
+    absurd
+    (never-unfit (s .args .state) (s .args .input .now) (s .args .row .now) (s .args .output .now) (s .pre .2) (s .pre .4) _ _
+    (w .before .part-end .ensures) (w .width .ensures .0) (wide w) _ _ _ (t .step-by .ensures) (c .enum-told .given .1))
 
 pub advance-spec : {M : Type 1} → statement M
 advance-spec =
     tie.close
     (tie.spec
-    due-requires
     part-end-requires
     width-requires
     sub-step-by
@@ -99,6 +103,7 @@ advance-spec =
     slice-aggregate-step-by
     step-by-requires
     enum-known-went
+    stepped-requires
     enum-told
     same-length
     same-length-2

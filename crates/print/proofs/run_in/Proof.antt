@@ -1,71 +1,91 @@
--- `run_in` is safe and ends. The loop's invariant: the wall is one that steps leave, and the window and the text lie in their buffers.
--- The measure is how many steps are left. Assumes nothing.
+-- `run_in` ends, as its contract says. The loop's invariant: a chain of turns leads from the start to the state. The measure is how many
+-- steps are left. Assumes nothing.
 use mathlib.Core.Path.{_≡_, refl, sym, _∙_}
-use Prim.Native.Nat.{_≤_}
+use Prim.Native.Nat.{_≤_, _<_}
 use native.Mathlib.Omega.{arith}
 use borrow.Author.Needs.{needs}
 use lib.ListN.{length}
 use Rattle.stages.specs.Fit.{due-of}
 use Rattle.file.specs.Stands.{steps-left}
-use Rattle.stream.specs.State.{Between}
 use Rattle.file.proofs.Laws.Stands.{none-due}
-use Rattle.stream.proofs.Laws.State.{starts-between, ready-on, ready-between}
-use Rattle.print.proofs.Laws.{turn-ahead, turn-between}
+use Rattle.stream.specs.State.{Made-ready, Standing}
+use Rattle.stream.proofs.Laws.State.{ready-on, ready-off, ready-between}
+use Rattle.stream.proofs.Laws.Run as run
+use Rattle.print.specs.Lines.{lines-step}
+use Rattle.print.proofs.Laws.Advanced.{lines-ahead}
 use Rattle.print.proofs.run_in.Statement.{statement}
 use Rattle.print.proofs.run_in.Tie as tie
 
 abbrev Inv-loop : tie.InvT-loop
 Inv-loop from to tables links₀ input₀ row₀ output₀ state₀ links input row output state =
-    (length links ≡ length links₀) × (length input ≡ length input₀) × (length row ≡ length row₀) × (length output ≡ length output₀) × Between state (length input) (length output)
+    (length links ≡ length links₀) × (length input ≡ length input₀) × (length row ≡ length row₀) × (length output ≡ length output₀)
+    × Standing lines-step tt state tt input row output
 
 abbrev μ-loop : tie.MeasureT-loop
 μ-loop from to tables links₀ input₀ row₀ output₀ state₀ links input row output state = steps-left (state .wall)
+
+-- the start of the function, the loop's head, and the answer of `ready`
+abbrev start : tie.At-loop Inv-loop μ-loop → tie.Start Inv-loop μ-loop
+start c = c .before .before .before .before .before .before .before
+
+abbrev head : tie.After-ready Inv-loop μ-loop → tie.At-loop Inv-loop μ-loop
+head c = c .before .before .before .before .before
+
+abbrev asked : tie.After-slice-known5 Inv-loop μ-loop → tie.After-ready Inv-loop μ-loop
+asked c = c .before .before
+
+abbrev stepped : tie.After-slice-known8 Inv-loop μ-loop → tie.After-advance Inv-loop μ-loop
+stepped c = c .before .before .before .before .before .before
+
+made : (c : tie.After-next Inv-loop μ-loop) →
+    let r = asked (c .before .before) in
+    Made-ready (head r .loop .state) (head r .loop .input) (length (head r .loop .output)) (c .next .given .0 .0) (r .ready .last .1 .1 .1 .0)
+made c = ready-on _ _ _ _ _ _ (c .next .given .1) (asked (c .before .before) .ready .ensures)
+
+some : (c : tie.After-ready Inv-loop μ-loop) → due-of (head c .loop .state .wall) ≡ 0 → ⊥
+some c e = c .before .before .before .if1 .taken (c .before .before .before .before .due .ensures .0 ∙ e)
 
 start-requires : tie.Need-start-requires Inv-loop μ-loop
 start-requires c κs = search needs
 
 loop-holds : tie.Need-loop-holds Inv-loop μ-loop
-loop-holds c = (refl, refl, refl, refl, starts-between _ _ _ (c .start .ensures))
+loop-holds c = (refl, refl, refl, refl, run.begun lines-step tt _ _ _ _ (c .start .ensures))
 
 due-requires : tie.Need-due-requires Inv-loop μ-loop
 due-requires c κs = search needs
 
 ready-requires : tie.Need-ready-requires Inv-loop μ-loop
-ready-requires c κs = let at = c .before .before .before .before .loop in (at .inv .4, omega arith, omega arith)
+ready-requires c κs =
+    let at = c .before .before .before .before in
+    let s = start at in
+    let input : 6710 ≤ length (at .loop .input) = omega (arith, at .loop .inv .1, s .pre .2) in
+    (at .loop .inv .4 .between, input, omega (arith, at .loop .inv .3, s .pre .4))
 
 enum-known-next : tie.Need-enum-known-next Inv-loop μ-loop
 enum-known-next c = search needs
 
 advance-requires : tie.Need-advance-requires Inv-loop μ-loop
 advance-requires c κs =
-    let m = c .before .before .before .before .before in
-    let r = m .before .before .before .before in
-    let at = r .before .before .before .before .before .loop in
-    let made = ready-on _ _ _ _ _ _ (m .next .given .1) (r .ready .ensures) in
-    let s = r .before .before .before .before .before .before .before .before .before .before .before .before in
-    let links : 770 ≤ length (at .links) = omega (arith, at .inv .0, s .pre .1) in
-    let row : 256 ≤ length (at .row) = omega (arith, at .inv .2, s .pre .3) in
-    (s .pre .0, links, ready-between (at .state) (at .input) (length (at .output)) _ _ (at .inv .4) made, row, made .room)
+    let n = c .before .before .before .before .before in
+    let at = head (asked (n .before .before)) in
+    let s = start at in
+    let links : 770 ≤ length (at .loop .links) = omega (arith, at .loop .inv .0, s .pre .1) in
+    let row : 256 ≤ length (at .loop .row) = omega (arith, at .loop .inv .2, s .pre .3) in
+    (s .pre .0, links, ready-between _ _ _ _ _ (at .loop .inv .4 .between) (made n), row, made n .room)
 
 loop-less : tie.Need-loop-less Inv-loop μ-loop
 loop-less c =
-    let a = c .before .before .before .before .before .before in
-    let m = a .before .before .before .before .before .before in
-    let r = m .before .before .before .before in
-    let at = r .before .before .before .before .before .loop in
-    let some : due-of (at .state .wall) ≡ 0 → ⊥ = λ e. r .before .before .before .if1 .taken (r .before .before .before .before .due .ensures .0 ∙ e) in
-    let made = ready-on _ _ _ _ _ _ (m .next .given .1) (r .ready .ensures) in
-    turn-ahead (at .state) (at .input) (length (at .output)) _ _ (at .row) (at .output) _ _ _ (at .inv .4) some made refl (a .advance .ensures) .less
+    let a = stepped c in
+    let n = a .before .before .before .before .before .before in
+    let r = asked (n .before .before) in
+    run.turn-less lines-step tt lines-ahead _ _ _ tt tt _ _ _ _ _ _ (some r) (head r .loop .inv .4) (made n) (a .advance .ensures)
 
 loop-again : tie.Need-loop-again Inv-loop μ-loop
 loop-again c =
-    let a = c .before .before .before .before .before .before in
-    let m = a .before .before .before .before .before .before in
-    let r = m .before .before .before .before in
-    let at = r .before .before .before .before .before .loop in
-    let some : due-of (at .state .wall) ≡ 0 → ⊥ = λ e. r .before .before .before .if1 .taken (r .before .before .before .before .due .ensures .0 ∙ e) in
-    let made = ready-on _ _ _ _ _ _ (m .next .given .1) (r .ready .ensures) in
-    (omega arith, omega arith, omega arith, omega arith, turn-between (at .state) (at .input) (length (at .output)) _ _ (at .row) (at .output) _ _ _ (at .inv .4) some made refl (a .advance .ensures))
+    let a = stepped c in
+    let n = a .before .before .before .before .before .before in
+    let r = asked (n .before .before) in
+    (omega arith, omega arith, omega arith, omega arith, run.turn-standing lines-step tt lines-ahead _ _ _ tt tt _ _ _ _ _ _ (some r) (head r .loop .inv .4) (made n) (a .advance .ensures))
 
 enum-known-ended : tie.Need-enum-known-ended Inv-loop μ-loop
 enum-known-ended c = search needs
@@ -83,13 +103,15 @@ same-length-4 : tie.Need-same-length-4 Inv-loop μ-loop
 same-length-4 c = search needs
 
 returns : tie.Need-returns Inv-loop μ-loop
-returns c = search needs
+returns c =
+    let r = asked (c .before .before .before) in
+    run.stopped lines-step tt _ tt _ _ _ _ (ready-off _ _ _ _ _ _ (c .before .ended .given .1) (r .ready .ensures)) (head r .loop .inv .4)
 
 finish-requires : tie.Need-finish-requires Inv-loop μ-loop
 finish-requires c κs =
-    let at = c .before .before .before .loop in
-    let none : due-of (at .state .wall) ≡ 0 = sym (c .before .before .due .ensures .0) ∙ c .before .if1 .left in
-    (none-due (at .state .wall) (at .inv .4 .stands) none, at .inv .4 .text)
+    let at = c .before .before .before in
+    let i = at .loop .inv .4 .between in
+    (none-due (at .loop .state .wall) (i .stands) (sym (c .before .before .due .ensures .0) ∙ c .before .if1 .left), i .text)
 
 same-length-5 : tie.Need-same-length-5 Inv-loop μ-loop
 same-length-5 c = search needs
@@ -104,7 +126,11 @@ same-length-8 : tie.Need-same-length-8 Inv-loop μ-loop
 same-length-8 c = search needs
 
 returns-2 : tie.Need-returns-2 Inv-loop μ-loop
-returns-2 c = search needs
+returns-2 c =
+    let at = c .before .before .before .before in
+    let i = at .loop .inv .4 in
+    let over = none-due (at .loop .state .wall) (i .between .stands) (sym (c .before .before .before .due .ensures .0) ∙ c .before .before .if1 .left) in
+    run.finishes lines-step tt _ _ tt _ _ _ over i (c .finish .ensures)
 
 pub run-in-spec : {M : Type 1} → statement M
 run-in-spec =

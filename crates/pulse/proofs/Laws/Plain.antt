@@ -12,7 +12,8 @@ use Rattle.settings.specs.declared.Settings.{Settings}
 use Rattle.settings.proofs.Laws.Cases.{by-order, by-equal}
 use Rattle.settings.proofs.Laws.Settings.{Limits, limits}
 use Rattle.admission.specs.Call.{Call}
-use Rattle.columns.specs.Marks.{marked, Plain}
+use Rattle.columns.specs.Marks.{marked}
+use Rattle.columns.specs.Plain.{Plain}
 use Rattle.pulse.specs.Pulse.{stamp, pulse}
 use Rattle.pulse.specs.Plain.{Receivable, received, from-left, from-own, from-right, Correct, correct-pulse}
 use Rattle.columns.proofs.Laws.Columns.{links-inner, neighbours-inner}

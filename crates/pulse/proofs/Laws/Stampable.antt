@@ -3,19 +3,20 @@
 use mathlib.Core.Path.{_≡_, refl, sym, _∙_, ap, subst}
 use mathlib.Core.Bool.{true, false}
 use mathlib.Core.List.{List, [], _∷_, map}
-use Prim.Native.Nat.{ℕ, _+_, _≤_, _<_, min, max}
+use Prim.Native.Nat.{ℕ, _+_, _*_, _≤_, _<_, min, max}
 use lib.ListN.{length, getD}
 use native.Mathlib.Omega.{arith}
 use Rattle.settings.specs.Settings.{step-of}
 use Rattle.rule.specs.Clock.{reads, first-tick}
 use Rattle.rule.specs.Stamp.{Stamp, _≼_, silence, stamp-of, code-of, earliest, latest, latest-stamp, All, none, more}
 use Rattle.rule.specs.Closed.{closed-P, Forwardable}
-use Rattle.rule.specs.Pulse.{tile-pulse}
+use Rattle.rule.specs.Pulse.{tile-P, tile-pulse}
 use Rattle.settings.specs.declared.Settings.{Settings}
 use Rattle.rule.proofs.Promises.{closed}
 use Rattle.settings.proofs.Laws.Settings.{limits}
 use Rattle.rule.proofs.Laws.Stamp.{By, earliest-by, latest-by, earliest-≼-latest}
-use Rattle.rule.proofs.Laws.Forward.{enough}
+use Rattle.rule.proofs.Laws.Clock.{pulse-latest}
+use Rattle.rule.proofs.Laws.Forward.{enough, P-most}
 use Rattle.rule.proofs.Laws.Coded.{stamp-silent, stamp-heard, code-stamp, earliest-two, earliest-three, latest-two, latest-three, forwardable}
 use Rattle.columns.specs.Columns.{neighbours, link}
 use Rattle.admission.specs.Call.{Call}
@@ -94,6 +95,20 @@ module _ {s : Settings} {ts : List ℕ} {x : Call} (r : Accepted s ts x) (c : �
         ready = rw (a, b, d) (forwardable small k (enough (heard-at c) beside-it (t .two) (few-silent r c i)) (ordered beside-it (t .two)) own-by (earliest-by all-by) (latest-by all-by));
         pulses = rw (a, b, d, code-stamp small own-by, code-stamp small (earliest-by all-by), code-stamp small (latest-by all-by), closed (heard-at c) t);
       }
+
+  -- a pulse is no later than a number of 64 bits can be
+  pub pulse-small : pulse s ts x c ≤ silence
+  unfolding pulse tile-pulse
+  pulse-small =
+      let k = limits s (r .settings) in
+      let t = tile-of r c i (stamp (s .width) ts x c) in
+      let all-by = neighbours-by r c i in
+      let v = tile-P s (heard-at c) beside-it + s .hold in
+      let small : tile-P s (heard-at c) beside-it ≤ latest-stamp + 3 * s .unit =
+      rw (closed (heard-at c) t)
+      (P-most (k .unit .0) (step-of s) (enough (heard-at c) beside-it (t .two) (few-silent r c i)) (ordered beside-it (t .two))
+      (stamp-by r c i c i (own (s .width) c c refl)) (earliest-by all-by) (latest-by all-by)) in
+      omega (arith, pulse-latest (getD (x .drifts) c 0) 0 0 v v (omega (arith, k .hold)) (omega arith), small, k .hold, k .unit)
 
   -- with two neighbours and with three
   pub pulse-two : {a b o p q : ℕ} → neighbours (s .width) c ≡ a ∷ b ∷ [] →

@@ -9,16 +9,16 @@ use Rattle.rule.proofs.Laws.Coded.{P-small}
 use Rattle.pulse.proofs.of_three.Statement.{statement}
 use Rattle.pulse.proofs.of_three.Tie as tie
 
-abbrev start : tie.After-forward → tie.Start
+abbrev start : tie.After-adopted → tie.Start
 start c = c .before .before .before .before .before
 
-forwarded : (c : tie.After-forward) →
+adopted-is : (c : tie.After-adopted) →
     let a = start c .args in
-    c .forward .result ≡ closed-P (a .settings .unit) (a .step) (stamp-of (a .own)) (stamp-of (min (min (a .a) (a .b)) (a .d))) (stamp-of (max (max (a .a) (a .b)) (a .d)))
-forwarded c = rw (c .before .before .before .smaller2 .ensures, c .before .before .before .before .smaller .ensures, c .before .larger2 .ensures, c .before .before .larger .ensures) at (c .forward .ensures)
+    c .adopted .result ≡ closed-P (a .settings .unit) (a .step) (stamp-of (a .own)) (stamp-of (min (min (a .a) (a .b)) (a .d))) (stamp-of (max (max (a .a) (a .b)) (a .d)))
+adopted-is c = rw (c .before .before .before .smaller2 .ensures, c .before .before .before .before .smaller .ensures, c .before .larger2 .ensures, c .before .before .larger .ensures) at (c .adopted .ensures)
 
-small : (c : tie.After-forward) → c .forward .result ≤ 4398046698604
-small c = rw (forwarded c) (P-small (start c .pre .0))
+small : (c : tie.After-adopted) → c .adopted .result ≤ 4398046698604
+small c = rw (adopted-is c) (P-small (start c .pre .0))
 
 smaller-requires : tie.Need-smaller-requires
 smaller-requires c κs = search needs
@@ -32,8 +32,8 @@ larger-requires c κs = search needs
 larger-requires-2 : tie.Need-larger-requires-2
 larger-requires-2 c κs = search needs
 
-forward-requires : tie.Need-forward-requires
-forward-requires c κs = rw (c .before .before .smaller2 .ensures, c .before .before .before .smaller .ensures, c .larger2 .ensures, c .before .larger .ensures) (c .before .before .before .before .pre .0)
+adopted-requires : tie.Need-adopted-requires
+adopted-requires c κs = rw (c .before .before .smaller2 .ensures, c .before .before .before .smaller .ensures, c .larger2 .ensures, c .before .larger .ensures) (c .before .before .before .before .pre .0)
 
 add-first-tick : tie.Need-add-first-tick
 add-first-tick c = omega (arith, small (c .before), start (c .before) .pre .1)
@@ -42,7 +42,7 @@ first-tick-requires : tie.Need-first-tick-requires
 first-tick-requires c κs = omega (arith, small (c .before), start (c .before) .pre .1)
 
 returns : tie.Need-returns
-returns c = rw (forwarded (c .before .before)) at (c .first-tick .ensures)
+returns c = rw (adopted-is (c .before .before)) at (c .first-tick .ensures)
 
 pub of-three-spec : {M : Type 1} → statement M
 of-three-spec =
@@ -52,7 +52,7 @@ of-three-spec =
     smaller-requires-2
     larger-requires
     larger-requires-2
-    forward-requires
+    adopted-requires
     add-first-tick
     first-tick-requires
     returns)

@@ -6,15 +6,12 @@ use Prim.Native.Nat.{ℕ, suc, _+_, _*_, _≤_, _<_, max}
 use lib.ListN.{length, getD, take}
 use native.Mathlib.Omega.{arith}
 use Rattle.settings.specs.declared.Settings.{Settings}
-use Rattle.settings.proofs.Laws.Settings.{limits}
 use Rattle.rule.specs.Stamp.{latest-stamp}
 use Rattle.columns.specs.Marks.{marked}
 use Rattle.runs.specs.Run.{taken, call-at, row-at}
-use Rattle.runs.specs.Reach.{widest-gap}
+use Rattle.runs.specs.Reach.{Alike, Two-runs, widest-gap, reach-ticks}
 use Rattle.runs.proofs.Laws.Run.{run-of}
-use Rattle.reach.specs.Search.{reach-ticks}
 use Rattle.reach.specs.Survey.{last-reach, largest-of}
-use Rattle.reach.specs.Runs.{Two-runs}
 use Rattle.reach.proofs.Laws.Gap.{gap-small}
 use Rattle.reach.proofs.Laws.Survey.{taken-length, taken-at, row-is}
 use Rattle.reach.proofs.Laws.Range.{first-early}
@@ -61,7 +58,7 @@ module _ {a b : List ℕ} {f k : ℕ} (t : Two-files a b f k) where
   pub clean : (l c : ℕ) → l < s .rows → c < s .width → marked (call-at (calls-of a) l .marks) c ≡ false
   clean l c i j = t .alike .first-clean l c (omega (arith, i, called)) j
 
-  pub runs-of-files : Two-runs (s .width) f k (taken s (calls-of a) (start-of a)) (taken s (calls-of b) (start-of a))
+  pub runs-of-files : Two-runs Alike (s .width) f k (taken s (calls-of a) (start-of a)) (taken s (calls-of b) (start-of a))
   unfolding Others-refused File-is-run
   runs-of-files =
       let p = file-is-run a (first-keeps t) in
@@ -81,5 +78,5 @@ module _ {a b : List ℕ} {f k : ℕ} (t : Two-files a b f k) where
 
   pub reach-small : largest-of s 0 0 (take (s .rows) rs) < 10000000000000
   reach-small =
-      let l = limits s (first-keeps t .settings-pass) in
+      let l = first-keeps t .settings-within in
       omega (arith, largest-small s 0 0 (take (s .rows) rs) narrow (omega arith), l .unit, l .rows)

@@ -12,9 +12,9 @@ use Rattle.settings.specs.Settings.{settings-refusal}
 use Rattle.settings.specs.declared.Settings.{Settings}
 use Rattle.settings.proofs.Laws.Settings.{limits}
 use Rattle.rule.specs.Stamp.{latest-stamp}
-use Rattle.runs.specs.Reach.{widest-gap}
+use Rattle.runs.specs.Reach.{widest-gap, reach-ticks}
 use Rattle.reach.specs.Span.{first-within, last-within}
-use Rattle.reach.specs.Search.{gap-of, reach-ticks, outside-wall, reach-of, reach-in-row}
+use Rattle.reach.specs.Search.{gap-of, outside-wall, reach-of, reach-in-row}
 use Rattle.reach.specs.Survey.{with-reach, with-gap, surveyed-of, last-reach}
 use Rattle.reach.specs.Answers.{gap-number, gap-B, reached-number, reached-outside, reached-ticks, reached-first, reached-last, surveyed-number, surveyed-outside, surveyed-B, surveyed-largest, Gap-is, Reached-is, Surveyed-is, Gap-answer, Reach-answer, Row-answer, Survey-answer}
 use Rattle.reach.specs.declared.Gap.the-variants as gap

@@ -4,7 +4,7 @@ use mathlib.Core.Bool.{true, true≢false}
 use Prim.Native.Nat.{ℕ, suc, _+_, _-_, _<_}
 use native.Mathlib.Omega.{arith}
 use Rattle.settings.proofs.Laws.Cases.{by-equal}
-use Rattle.columns.specs.Columns.{are-neighbours, Way, stay, hop, Within}
+use Rattle.columns.specs.Columns.{are-neighbours, Way, stay, hop, Hops-within}
 use Rattle.columns.proofs.Laws.Columns.{next, previous, first-third, third-first, third-last, last-third, strangers}
 
 -- a claim by whether two equalities hold
@@ -45,5 +45,5 @@ mirrored-way {w} i (hop {b = b} {c = c} j e way) =
     let in-wall : w - 1 - c < w = omega arith in
     hop in-wall (mirrored w c b j (inside i way) e) (mirrored-way i way)
 
-pub mirrored-within : {w n a b : ℕ} → a < w → Within w n a b → Within w n (w - 1 - a) (w - 1 - b)
+pub mirrored-within : {w n a b : ℕ} → a < w → Hops-within w n a b → Hops-within w n (w - 1 - a) (w - 1 - b)
 mirrored-within i r = record { hops = r .hops; few = r .few; way = mirrored-way i (r .way) }

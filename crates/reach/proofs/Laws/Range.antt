@@ -13,13 +13,12 @@ use Rattle.rule.specs.Stamp.{latest-stamp}
 use Rattle.admission.specs.Call.{Call}
 use Rattle.admission.proofs.Laws.Accepted.{Accepted, accepted}
 use Rattle.runs.specs.Run.{taken, rows, call-at, row-at}
-use Rattle.runs.specs.Reach.{widest-gap, Reach, One-fault}
+use Rattle.runs.specs.Reach.{Alike, Two-runs, widest-gap, reach-ticks, One-fault}
 use Rattle.runs.proofs.Promises.{one-fault}
-use Rattle.runs.proofs.Laws.Run.{run-of}
+use Rattle.runs.proofs.Laws.Run.{run-of, run-checked}
 use Rattle.reach.specs.Span.{first-within, last-within, Spanned}
-use Rattle.reach.specs.Search.{gap-of, reach-ticks, reach-of, reach-in-row}
+use Rattle.reach.specs.Search.{gap-of, reach-of, reach-in-row}
 use Rattle.reach.specs.Answers.{Gap-is, Reached-is}
-use Rattle.reach.specs.Runs.{Two-runs}
 use Rattle.reach.specs.Promises.{Covers, Searched}
 use Rattle.reach.specs.declared.Reached.{Reached}
 use Rattle.reach.proofs.Laws.Gap.{gap-small}
@@ -42,7 +41,7 @@ module _ (s : Settings) (row : List ℕ) (f l k : ℕ) (ok : settings-refusal s 
   in-row = rw (row-answer s b f l k .later ok after last-row) by-rows
 
 -- two runs: the rows that calls come after are rows of a wall, since each call is accepted, and in the first marks nothing
-module _ (s : Settings) (ts : List ℕ) (xs ys : List Call) (f k : ℕ) (t : Two-runs (s .width) f k (taken s xs ts) (taken s ys ts)) where
+module _ (s : Settings) (ts : List ℕ) (xs ys : List Call) (f k : ℕ) (t : Two-runs Alike (s .width) f k (taken s xs ts) (taken s ys ts)) where
   first-accepted : (l : ℕ) → l < length (taken s xs ts) → Accepted s (row-at ts (rows s xs ts) l) (call-at (taken s xs ts) l)
   first-accepted l i = accepted s (row-at ts (rows s xs ts) l) (call-at (taken s xs ts) l) (run-of s xs ts .goes l i)
 
@@ -51,20 +50,11 @@ module _ (s : Settings) (ts : List ℕ) (xs ys : List Call) (f k : ℕ) (t : Two
       let called : l < length (taken s xs ts) = omega (arith, i, run-of s xs ts .as-many) in
       omega (arith, first-accepted l called .time c j (t .alike .first-clean l c called j))
 
-  pub checked : settings-refusal s ≡ 0
-  checked = first-accepted f (t .row) .settings
+  checked : settings-refusal s ≡ 0
+  checked = run-checked (run-of s xs ts) f (t .row)
 
   row-long : length (row-at ts (rows s xs ts) f) ≡ s .width
   row-long = first-accepted f (t .row) .lengths .before
-
-  -- the words of demand 3
-  pub reach-of-runs : length (rows s xs ts) ≡ s .rows → Reach s ts f k (rows s xs ts) (rows s ys ts)
-  unfolding One-fault row-at
-  reach-of-runs all =
-      let first = run-of s xs ts .as-many in
-      let second = run-of s ys ts .as-many in
-      one-fault s ts xs ys f k checked (first-accepted 0 (omega (arith, t .row)) .lengths .before) (t .column) all
-      (omega (arith, first, second, t .alike .as-many, all)) (omega (arith, first, all, t .row)) (t .alike)
 
   -- so they are what the answers for row f of the first run cover
   abbrev before : List ℕ
@@ -77,9 +67,9 @@ module _ (s : Settings) (ts : List ℕ) (xs ys : List Call) (f k : ℕ) (t : Two
     covers : (answer : Reached) →
         Reached-is answer 0 false (some (reach-ticks s B (l - f))) (some (first-within (s .width) k (l - f))) (some (last-within (s .width) k (l - f))) →
         Covers answer (s .width) (row-at ts (rows s xs ts) l) (row-at ts (rows s ys ts) l)
-    unfolding Reached-is reach-ticks
+    unfolding Reached-is One-fault
     covers answer is =
-        let r = reach-of-runs all in
+        let r = one-fault s ts xs ys f k t in
         let span : (c : ℕ) → c < s .width → Spanned (s .width) (l - f) k c = λ c i. spanned (s .width) (l - f) k c (limits s checked .width .0) (t .column) i in
         let few : l ≤ length (rows s xs ts) = omega (arith, all, last-row) in
         record {

@@ -4,7 +4,7 @@ use Prim.Native.Nat.{ℕ, zero, suc, _+_, _-_, _≤_, _<_, min}
 use native.Mathlib.Omega.{arith}
 use borrow.Author.Tests.{eq-eqb, ne-eqb, lt-ltb, le-ltb}
 use Rattle.settings.proofs.Laws.Cases.{by-order, by-equal}
-use Rattle.columns.specs.Columns.{Way, stay, hop, Within}
+use Rattle.columns.specs.Columns.{Way, stay, hop, Hops-within}
 use Rattle.columns.proofs.Laws.Columns.{next, first-third, third-last}
 use Rattle.reach.specs.Span.{end-within, first-within, last-within, Spanned}
 use Rattle.reach.proofs.Laws.Neighbours.{by-neighbours, mirrored-within}
@@ -68,31 +68,31 @@ module _ {w k h : ℕ} where
       hop in-wall (first-third w 0 2 refl refl) (go-down m b 2 i e way)
 
   -- all the columns from the first down to b
-  from-there : (n b c : ℕ) → b < w → b + h ≡ min k (w - 2) → (b < 2 → h ≡ 0) → c ≤ b → 0 < n → Low w k n c → Way w h k b → Within w n k c
+  from-there : (n b c : ℕ) → b < w → b + h ≡ min k (w - 2) → (b < 2 → h ≡ 0) → c ≤ b → 0 < n → Low w k n c → Way w h k b → Hops-within w n k c
   unfolding end-within
   from-there n b c i e near j p low way =
-      let straight : b - c + h ≤ n → Within w n k c = λ few. record { hops = b - c + h; few = few; way = go-down (b - c) b c i (omega arith) way } in
+      let straight : b - c + h ≤ n → Hops-within w n k c = λ few. record { hops = b - c + h; few = few; way = go-down (b - c) b c i (omega arith) way } in
       by-order (end-within n) (min k (w - 2))
       (λ q. straight (let f = low .1 p q in omega arith))
       (λ q. by-order 1 c
       (λ l. straight (omega arith))
       (λ l. by-order 2 b
       (λ m. let zero-there : 0 ≡ c = omega arith in
-      subst (Within w n k) zero-there (record { hops = suc (b - 2 + h); few = omega arith; way = go-first (b - 2) b i (omega arith) way }))
+      subst (Hops-within w n k) zero-there (record { hops = suc (b - 2 + h); few = omega arith; way = go-first (b - 2) b i (omega arith) way }))
       (λ m. straight (let none = near m in omega arith))))
 
 -- from the column itself, or of the last column from the third from it
-below : (w k n c : ℕ) → 6 ≤ w → k < w → c ≤ k → Low w k n c → Within w n k c
+below : (w k n c : ℕ) → 6 ≤ w → k < w → c ≤ k → Low w k n c → Hops-within w n k c
 below w k n c wide i j low =
     by-equal n 0
-    (λ z. let same : k ≡ c = (let f = low .0 z in omega arith) in subst (Within w n k) same (record { hops = 0; few = omega arith; way = stay }))
+    (λ z. let same : k ≡ c = (let f = low .0 z in omega arith) in subst (Hops-within w n k) same (record { hops = 0; few = omega arith; way = stay }))
     (λ p. by-order k (w - 2)
     (λ q. from-there n k c i (omega arith) (λ m. refl) j (omega arith) low stay)
     (λ q. by-order c (w - 3)
     (λ l. from-there n (w - 3) c (omega arith) (omega arith) (λ m. omega arith) l (omega arith) low
     (let in-wall : w - 3 < w = omega arith in hop in-wall (third-last w (w - 3) k (omega arith) (omega arith)) stay))
     (λ l. by-equal c k
-    (λ e. subst (Within w n k) (sym e) (record { hops = 0; few = omega arith; way = stay }))
+    (λ e. subst (Hops-within w n k) (sym e) (record { hops = 0; few = omega arith; way = stay }))
     (λ e. record { hops = 1; few = omega arith; way = let in-wall : c < w = omega arith in hop in-wall (next w c k (omega arith)) stay }))))
 
 pub spanned : (w n k c : ℕ) → 6 ≤ w → k < w → c < w → Spanned w n k c

@@ -6,7 +6,8 @@ use borrow.Author.Tests.{eq-eqb, ne-eqb}
 use Rattle.settings.specs.Settings.{settings-refusal}
 use Rattle.settings.proofs.Laws.Settings.{limits}
 use Rattle.reach.specs.Span.{last-within}
-use Rattle.reach.specs.Search.{reach-ticks, reach-of}
+use Rattle.runs.specs.Reach.{reach-ticks}
+use Rattle.reach.specs.Search.{reach-of}
 use Rattle.reach.proofs.Laws.Search.{Inside, in-wall}
 use Rattle.reach.proofs.Laws.Span.{first-small}
 use borrow.Author.Needs.{needs}

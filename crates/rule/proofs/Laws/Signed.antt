@@ -5,7 +5,7 @@ use mathlib.Core.Bool.{true, false}
 use Prim.Native.Nat.{ℕ, zero, suc, _+_, _-_, _^_, _≤_, _<_, min, max}
 use native.Mathlib.Omega.{arith}
 use lib.Dec.{T}
-use lib.IntN.{pos, negsuc, subℕ, _+ℤ_, _-ℤ_}
+use lib.IntN.{pos, negsuc, negℤ, subℕ, _+ℤ_, _-ℤ_}
 use lib.Signed.{ltZ, leZ, _≤ℤ_, leZ-yes}
 use mir.Syntax.{w64}
 use mir.Val.{SFits}
@@ -89,9 +89,13 @@ sub-negative a b i = rw (sub-neg a b i)
 pub sub-not-negative : (a b : ℕ) → b ≤ a → ltZ (subℕ a b) (pos 0) ≡ false
 sub-not-negative a b i = rw (sub-pos a b i) (le-ltb (a - b) 0 (omega arith))
 
--- a natural as a difference
+-- a natural as a difference, and its negative
 pub pos-sub : (n : ℕ) → pos n ≡ subℕ n 0
 pos-sub n = sym (sub-pos n 0 (omega arith) ∙ ap pos (omega arith))
+
+pub neg-sub : (n : ℕ) → negℤ (pos n) ≡ subℕ 0 n
+neg-sub zero = refl
+neg-sub (suc n) = sym (sub-neg 0 (suc n) (omega arith) ∙ ap negsuc (omega arith))
 
 -- the difference of two naturals below 2^63 is an i64
 pub minus-fits : (a b : ℕ) → a < 2 ^ 63 → b < 2 ^ 63 → SFits w64 (pos a -ℤ pos b)

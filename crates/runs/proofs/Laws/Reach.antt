@@ -10,12 +10,12 @@ use native.Mathlib.Omega.{arith}
 use borrow.Author.Tests.{eq-eqb, ne-eqb}
 use Rattle.settings.specs.declared.Settings.{Settings}
 use Rattle.settings.proofs.Laws.Cases.{by-equal}
-use Rattle.columns.specs.Columns.{are-neighbours, columns-from, neighbours, is-predecessor, predecessors, Way, stay, hop, Within, link}
+use Rattle.columns.specs.Columns.{are-neighbours, columns-from, neighbours, is-predecessor, predecessors, Way, stay, hop, Hops-within, link}
 use Rattle.admission.specs.Call.{Call}
 use Rattle.columns.specs.Marks.{marked, faulty-among}
 use Rattle.pulse.specs.Pulse.{arrival, stamp, pulse}
 use Rattle.runs.specs.Run.{call-at, row-at}
-use Rattle.runs.specs.Reach.{Alike-among, apart, widest, gap-below, widest-gap, Reach}
+use Rattle.runs.specs.Reach.{Alike-among, Two-runs, apart, widest, gap-below, widest-gap, reach-ticks, Reach}
 use Rattle.columns.proofs.Laws.Lists.{by-test}
 use Rattle.admission.proofs.Laws.Accepted.{Accepted, accepted}
 use Rattle.pulse.proofs.Laws.Stamps.{one, faulty-step}
@@ -80,8 +80,12 @@ others-correct {s} {ts} {x} r c j k i l l′ p q d m =
     (λ t. let never : ⊥ = omega (arith, r .few c i, two-faulty (x .marks) (is-predecessor (s .width) c) j k (s .width) 0 (omega arith) (omega arith) (omega arith) (omega arith) p q d t m) in absurd never)
     (λ t. t)
 
+-- within so many hops is within more
+more-hops : {w n m a b : ℕ} → Hops-within w n a b → n ≤ m → Hops-within w m a b
+more-hops v i = record { hops = v .hops; few = omega (arith, v .few); way = v .way }
+
 -- a predecessor is a hop away
-hop-back : {w : ℕ} (n c j k : ℕ) → c < w → is-predecessor w c j ≡ true → Within w n k j → Within w (suc n) k c
+hop-back : {w : ℕ} (n c j k : ℕ) → c < w → is-predecessor w c j ≡ true → Hops-within w n k j → Hops-within w (suc n) k c
 unfolding is-predecessor
 hop-back {w} n c j k i p v =
     by-equal j c
@@ -90,9 +94,12 @@ hop-back {w} n c j k i p v =
 
 -- the two runs
 module _ {s : Settings} {ts : List ℕ} {xs ys : List Call} {rs qs : List (List ℕ)} {f k : ℕ} (run : Run s ts xs rs) (run′ : Run s ts ys qs)
-    (alike : Alike-among (s .width) f k xs ys) (l : k < s .width) where
+    (two : Two-runs Alike-among (s .width) f k xs ys) where
   abbrev w : ℕ
   w = s .width
+
+  abbrev alike : Alike-among w f k xs ys
+  alike = two .alike
 
   -- an accepted call of either, and the pulses that it writes
   first-accepted : (n : ℕ) → n < length xs → Accepted s (row-at ts rs n) (call-at xs n)
@@ -138,7 +145,7 @@ module _ {s : Settings} {ts : List ℕ} {xs ys : List Call} {rs qs : List (List 
       same-next n c (omega arith) o (λ m p t. (another-row n m (omega arith), up-to n m (omega arith) (omega arith) p))
 
   -- later rows outside the cone: row suc n, where n is i rows past f
-  pub outside : (i n c : ℕ) → n ≡ f + i → n < length xs → c < w → (Within w (suc i) k c → ⊥) →
+  pub outside : (i n c : ℕ) → n ≡ f + i → n < length xs → c < w → (Hops-within w (suc i) k c → ⊥) →
       getD (row-at ts rs (suc n)) c 0 ≡ getD (row-at ts qs (suc n)) c 0
   outside zero n c e j o v =
       same-next n c j o
@@ -158,16 +165,17 @@ module _ {s : Settings} {ts : List ℕ} {xs ys : List Call} {rs qs : List (List 
   abbrev Close : (n c D : ℕ) → Type 0
   Close n c D = (getD (row-at ts qs n) c 0 ≤ getD (row-at ts rs n) c 0 + D) × (getD (row-at ts rs n) c 0 ≤ getD (row-at ts qs n) c 0 + D)
 
-  faulty-there : (i : f < length xs) → marked (call-at ys f .marks) k ≡ true
-  faulty-there i = alike .marks f k i l ∙ rw (alike .correct, eq-eqb f f refl, eq-eqb k k refl)
+  faulty-there : marked (call-at ys f .marks) k ≡ true
+  faulty-there = alike .marks f k (two .row) (two .column) ∙ rw (alike .correct, eq-eqb f f refl, eq-eqb k k refl)
 
   -- a predecessor other than the faulty tile, in the row after it
-  near-of : (c j : ℕ) (i : f < length xs) (o : c < w) → j < w → is-predecessor w c j ≡ true → is-predecessor w c k ≡ true → (j ≡ k → ⊥) →
+  near-of : (c j : ℕ) → c < w → j < w → is-predecessor w c j ≡ true → is-predecessor w c k ≡ true → (j ≡ k → ⊥) →
       Near s (row-at ts rs f) (row-at ts qs f) (call-at xs f) (call-at ys f) c B 0 j
   unfolding apart
-  near-of c j i o m p q d =
-      let same = up-to f j (omega arith) (omega arith) m in
-      let correct′ = others-correct (second-accepted f i) c j k o m l p q d (faulty-there i) in
+  near-of c j o m p q d =
+      let i = two .row in
+      let same = up-to f j (omega arith) (omega (arith, i)) m in
+      let correct′ = others-correct (second-accepted f i) c j k o m (two .column) p q d faulty-there in
       let gap = beside-own c j o m p in
       record {
         correct = same-mark f j i m (another-column f j d) ∙ correct′;
@@ -185,13 +193,14 @@ module _ {s : Settings} {ts : List ℕ} {xs ys : List Call} {rs qs : List (List 
           (λ e. rw e (unfold apart in omega arith))
           (λ e. neighbours-apart (row-at ts rs f) w c j o m (unfold is-predecessor in (rw (ne-eqb j c e) at p)))
 
-  first-row : (c : ℕ) → f < length xs → c < w → Close (suc f) c (2 * B + 8 * s .unit)
-  first-row c i o =
+  first-row : (c : ℕ) → c < w → Close (suc f) c (2 * B + 8 * s .unit)
+  first-row c o =
+      let i = two .row in
       by-test (is-predecessor w c k)
       (λ q. rw (first-pulse f c i o, second-pulse f c i o)
-      (omega (arith, pulse-near (first-accepted f i) (second-accepted f i) c o (same-drift f c i) k l q B 0 (λ j m p d. near-of c j i o m p q d))))
+      (omega (arith, pulse-near (first-accepted f i) (second-accepted f i) c o (same-drift f c i) k (two .column) q B 0 (λ j m p d. near-of c j o m p q d))))
       (λ q. let same = same-next f c i o
-      (λ m p t. (another-column f m (λ e. true≢false (sym t ∙ ap (is-predecessor w c) e ∙ q)), up-to f m (omega arith) (omega arith) p)) in
+      (λ m p t. (another-column f m (λ e. true≢false (sym t ∙ ap (is-predecessor w c) e ∙ q)), up-to f m (omega arith) (omega (arith, i)) p)) in
       omega arith)
 
   -- the row after a row past f
@@ -209,24 +218,26 @@ module _ {s : Settings} {ts : List ℕ} {xs ys : List Call} {rs qs : List (List 
   pub inside : (i n c : ℕ) → n ≡ f + i → n < length xs → c < w → Close (suc n) c (2 * B + 8 * s .unit + i)
   inside zero n c e j o =
       let here : f ≡ n = omega arith in
-      subst (λ (m : ℕ). Close (suc m) c (2 * B + 8 * s .unit + 0)) here (omega (arith, first-row c (omega arith) o))
+      subst (λ (m : ℕ). Close (suc m) c (2 * B + 8 * s .unit + 0)) here (omega (arith, first-row c o))
   inside (suc i) zero c e j o = let never : ⊥ = omega arith in absurd never
   inside (suc i) (suc n) c e j o =
       omega (arith, next-row (suc n) c (2 * B + 8 * s .unit + i) (omega arith) j o (λ m p. inside i n m (omega arith) (omega arith) p))
 
-  -- demand 3, of the two runs
-  pub reach : f < length xs → Reach s ts f k rs qs
-  unfolding apart
-  reach in-run =
-      record { before = λ n c i j. up-to n c i (omega arith) j; far = far; near = near }
-    where
-      far : (n c : ℕ) → f < n → n ≤ length rs → c < w → (Within w (n - f) k c → ⊥) → getD (row-at ts rs n) c 0 ≡ getD (row-at ts qs n) c 0
-      far zero c i j o v = let never : ⊥ = omega arith in absurd never
-      far (suc n) c i j o v =
-          let hops : suc (n - f) ≡ suc n - f = omega arith in
-          outside (n - f) n c (omega arith) (omega (arith, run .as-many)) o (λ u. v (subst (λ (m : ℕ). Within w m k c) hops u))
+  -- a row past f
+  beyond : (n c : ℕ) → f < n → n ≤ length xs → c < w → (Hops-within w (n - f) k c → ⊥) → getD (row-at ts rs n) c 0 ≡ getD (row-at ts qs n) c 0
+  beyond zero c i j o v = let never : ⊥ = omega arith in absurd never
+  beyond (suc n) c i j o v = outside (n - f) n c (omega arith) (omega arith) o (λ u. v (more-hops u (omega arith)))
 
-      near : (n c : ℕ) → f < n → n ≤ length rs → c < w →
-          apart (getD (row-at ts rs n) c 0) (getD (row-at ts qs n) c 0) ≤ 2 * widest-gap w (row-at ts rs f) + 8 * s .unit + (n - f - 1)
-      near zero c i j o = let never : ⊥ = omega arith in absurd never
-      near (suc n) c i j o = omega (arith, inside (n - f) n c (omega arith) (omega (arith, run .as-many)) o)
+  within : (n c : ℕ) → f < n → n ≤ length xs → c < w → Close n c (2 * B + 8 * s .unit + (n - f - 1))
+  within zero c i j o = let never : ⊥ = omega arith in absurd never
+  within (suc n) c i j o = omega (arith, inside (n - f) n c (omega arith) (omega arith) o)
+
+  -- demand 3, of the two runs: a bound that is at least this one, and hops that are at least these, follow by arithmetic
+  pub reach : Reach s ts f k rs qs
+  unfolding apart reach-ticks
+  reach =
+      record {
+        before = λ n c i j. up-to n c i (omega (arith, two .row)) j;
+        far = λ n c i j o v. beyond n c i (omega (arith, run .as-many)) o (λ u. v (more-hops u (omega arith)));
+        near = λ n c i j o. omega (arith, within n c i (omega (arith, run .as-many)) o);
+      }

@@ -5,6 +5,7 @@ use Prim.Native.Nat.{ℕ, zero, suc, _<_}
 use lib.ListN.{length, getD}
 use native.Mathlib.Omega.{arith}
 use borrow.Author.Tests.{eq-eqb, ne-eqb}
+use Rattle.settings.specs.Settings.{settings-refusal}
 use Rattle.settings.specs.declared.Settings.{Settings}
 use Rattle.settings.proofs.Laws.Cases.{by-equal}
 use Rattle.admission.specs.Call.{Call}
@@ -13,6 +14,7 @@ use Rattle.row.specs.Row.{row-of}
 use Rattle.admission.specs.Refusal.{row-refusal}
 use Rattle.runs.specs.Run.{taken, rows, call-at, row-at}
 use Rattle.columns.proofs.Laws.Lists.{table-at}
+use Rattle.admission.proofs.Laws.Accepted.{accepted}
 
 -- accepted calls and the rows that they wrote
 pub record Run (s : Settings) (ts : List ℕ) (xs : List Call) (rs : List (List ℕ)) : Type 0 where
@@ -54,6 +56,10 @@ run-of s (x ∷ xs) ts =
     by-equal (row-refusal s ts x) 0
     (λ e. rw (eq-eqb (row-refusal s ts x) 0 e) (one-more e refl (run-of s xs (row-of s ts x))))
     (λ n. rw (ne-eqb (row-refusal s ts x) 0 n) (run-of s xs ts))
+
+-- the settings of a run with an accepted call pass
+pub run-checked : {s : Settings} {ts : List ℕ} {xs : List Call} {rs : List (List ℕ)} → Run s ts xs rs → (l : ℕ) → l < length xs → settings-refusal s ≡ 0
+run-checked {s} {ts} {xs} {rs} run l i = accepted s (row-at ts rs l) (call-at xs l) (run .goes l i) .settings
 
 -- a pulse of a row that was written
 pub written-at : {s : Settings} {ts : List ℕ} {xs : List Call} {rs : List (List ℕ)} → Run s ts xs rs → (l c : ℕ) → l < length xs → c < s .width →

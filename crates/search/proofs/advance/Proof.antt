@@ -1,25 +1,23 @@
 -- `advance` meets its contract. Assumes nothing.
 use mathlib.Core.Path.{_≡_, sym, _∙_}
+use Prim.Native.Nat.{_≤_}
+use native.Mathlib.Omega.{arith}
 use lib.ListN.{length, take}
 use lib.Seq.{length-take-le}
-use native.Mathlib.Omega.{arith}
-use Rattle.search.proofs.Laws.Moved.{moved}
+use Rattle.search.proofs.Laws.Search.{advanced}
 use borrow.Author.Needs.{needs}
 use Rattle.search.proofs.advance.Statement.{statement}
 use Rattle.search.proofs.advance.Tie as tie
 
--- the start of the function, and the rows' lengths
+-- the start of the function, from where the width is known, and the rows of that width
 abbrev start : tie.After-width → tie.Start
-start c = c .before .before .before .before .before .before .before .before .before .before
+start w = w .before .before .before .before .before .before .before .before
 
-row-long : (c : tie.After-width) → length (take (c .width .result) (start c .args .row .now)) ≡ c .width .result
-row-long c = length-take-le _ (start c .args .row .now) (omega (arith, c .width .ensures .1, start c .pre .1))
+row-long : (w : tie.After-width) → length (take (w .width .result) (start w .args .row .now)) ≡ w .width .result
+row-long w = length-take-le _ _ (omega (arith, w .width .ensures .1, start w .pre .1))
 
-next-long : (c : tie.After-width) → length (take (c .width .result) (start c .args .next .now)) ≡ c .width .result
-next-long c = length-take-le _ (start c .args .next .now) (omega (arith, c .width .ensures .1, start c .pre .2))
-
-due-requires : tie.Need-due-requires
-due-requires c κs = search needs
+next-long : (w : tie.After-width) → length (take (w .width .result) (start w .args .next .now)) ≡ w .width .result
+next-long w = length-take-le _ _ (omega (arith, w .width .ensures .1, start w .pre .2))
 
 part-end-requires : tie.Need-part-end-requires
 part-end-requires c κs = search needs
@@ -55,6 +53,11 @@ step-requires c κs =
     let wide = w .width .ensures in
     ((s .pre .0 .stands, s .pre .3), (row-long w ∙ wide .0, next-long w ∙ wide .0, omega (arith, row-long w, wide .1)))
 
+stepped-requires : tie.Need-stepped-requires
+stepped-requires c κs =
+    let w = c .before .before .before .before .before .before .before .before .before .before .before in
+    w .before .part-end .ensures
+
 same-length : tie.Need-same-length
 same-length c = search needs
 
@@ -66,19 +69,17 @@ same-length-3 c = search needs
 
 returns : tie.Need-returns
 returns c =
-    let f = c .before .before .before .before .before .before in
+    let f = c .before .before .before .before .before .before .before in
     let w = f .before .before .before .before .before in
-    let e = w .before in
     let s = start w in
     let a = s .args in
-    moved _ (a .search) (a .input .now) (a .row .now) (a .next .now) (a .output .now) (s .pre .0 .within) (e .before .due .result) (e .part-end .result) (w .width .result)
-    (e .before .due .ensures .0) (e .part-end .ensures) (w .width .ensures .0) (f .step .kept .1 .1 .1 .0 ∙ row-long w) (f .step .ensures)
+    advanced _ (a .state) (a .largest) (a .input .now) (a .row .now) (a .output .now) (s .pre .0 .within) _ _
+    (w .before .part-end .ensures) (w .width .ensures .0) (f .step .result) (c .stepped .result) _ _ (f .step .kept .1 .1 .1 .1 .0 ∙ row-long w) (c .stepped .ensures) (f .step .ensures)
 
 pub advance-spec : {M : Type 1} → statement M
 advance-spec =
     tie.close
     (tie.spec
-    due-requires
     part-end-requires
     width-requires
     sub-step
@@ -89,6 +90,7 @@ advance-spec =
     slice-relend-prefix-step-2
     slice-aggregate-step-2
     step-requires
+    stepped-requires
     same-length
     same-length-2
     same-length-3

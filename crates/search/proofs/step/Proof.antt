@@ -1,8 +1,7 @@
 -- `step` meets its contract. Assumes nothing.
-use mathlib.Core.Path.{refl, _∙_}
 use Rattle.steps.proofs.Laws.Fit.{takes-both}
 use Rattle.steps.proofs.Laws.Taken.{Took-step, took-step}
-use Rattle.search.proofs.Laws.Moved.{never-unfit}
+use Rattle.search.proofs.Laws.Search.{never-unfit, step-told}
 use borrow.Author.Needs.{needs}
 use Rattle.search.proofs.step.Statement.{statement}
 use Rattle.search.proofs.step.Tie as tie
@@ -12,11 +11,11 @@ abbrev take : tie.After-took → tie.After-take
 take c = c .before .before .before .before
 
 abbrev start : tie.After-take → tie.Start
-start c = c .before .before .before .before .before .before .before .before .before .before
+start c = c .before .before .before .before .before .before .before .before
 
 taken : (c : tie.After-took) →
     let a = start (take c) .args in
-    Took-step (a .search .state .wall) (a .part .now) (a .row .now) (a .next .now) (c .took .given .0 .0) (take c .take .last .1 .1 .1 .0)
+    Took-step (a .wall) (a .part .now) (a .row .now) (a .next .now) (c .took .given .0 .0) (take c .take .last .1 .1 .1 .0)
 taken c = took-step (take c .take .ensures) (c .took .given .1)
 
 take-requires : tie.Need-take-requires
@@ -50,8 +49,9 @@ returns : tie.Need-returns
 returns c =
     let f = c .before .before .before .before .before .before .before in
     let t = f .before .before .before .before in
-    let said = f .tell .ensures in
-    record { wall = said .wall; largest = said .largest; text = said .text; row = c .before .before .copy .ensures ∙ taken t .written; window = refl }
+    let s = start (take t) in
+    let a = s .args in
+    step-told _ (a .wall) (a .largest) (a .row .now) (a .part .now) (a .next .now) _ _ (s .pre .1 .0) (s .pre .1 .1) (taken t .written) (c .before .before .copy .ensures) (f .tell .ensures)
 
 same-length-4 : tie.Need-same-length-4
 same-length-4 c = search needs

@@ -11,17 +11,21 @@ use lib.Seq.{take-take, take-all, take-add, drop-at, drop-drop, length-take-le}
 use Rattle.lines.specs.Wrote.{Wrote}
 use Rattle.stages.specs.Fit.{due-of}
 use Rattle.lines.specs.Row.{step-room}
-use Rattle.window.specs.Window.{Within, bytes-in, lacking, filled-up}
+use Rattle.window.specs.Window.{In-buffer, bytes-in, lacking, filled-up}
 use Rattle.file.specs.Stands.{Stands}
-use Rattle.stream.specs.State.{Between, Starts, to-write, Made-ready, made-ready}
+use Rattle.stream.specs.State.{Between, Starts, to-hand, Made-ready, made-ready}
 use Rattle.stream.specs.declared.State.{State}
 use Rattle.window.specs.declared.Window.{Window}
-use Rattle.window.specs.declared.Filled.{Filled}
-use Rattle.window.specs.declared.Filled.the-variants.{Ready}
-use Rattle.stream.specs.declared.Ended.the-variants.{ReadFailed, WriteFailed}
+use Rattle.window.specs.declared.Reading.{Reading}
+use Rattle.window.specs.declared.Reading.the-variants.{Ready}
+use Rattle.stream.specs.declared.Ended.{Ended}
+use Rattle.stream.specs.declared.Ended.the-variants.{Done, ReadFailed, WriteFailed}
 use Rattle.stream.specs.declared.Turn.{Turn}
 use Rattle.stream.specs.declared.Turn.the-variants.{On, Stop}
 use Rattle.window.proofs.Laws.Window.{filled-already}
+
+one-is-not : _≡_ {A = ℕ} 0 1 → ⊥
+one-is-not e = omega (arith, e)
 
 -- the first state stands between nothing and nothing
 pub starts-between : (s : State) (n m : ℕ) → Starts s → Between s n m
@@ -35,7 +39,7 @@ module _ (s : State) (before : List ℕ) (n due : ℕ) (due-is : due ≡ due-of 
 
   -- nothing is lacking, and there is room
   pub at-once : Between s (length before) n → lacking (s .window) due ≡ false → s .text + step-room ≤ n → made-ready s before n (On s) before
-  unfolding made-ready filled-up to-write
+  unfolding made-ready filled-up to-hand
   at-once b e i =
       record {
         wall = refl;
@@ -45,37 +49,37 @@ module _ (s : State) (before : List ℕ) (n due : ℕ) (due-is : due ≡ due-of 
         room = i;
       }
 
-  -- the text is to be written where something is lacking, or the room is too small
-  pub write-lacking : lacking (s .window) due ≡ true → to-write s n ≡ true
-  unfolding to-write
-  write-lacking e = rw (same-lack e)
+  -- the text is to be handed over where something is lacking, or the room is too small
+  pub hand-lacking : lacking (s .window) due ≡ true → to-hand s n ≡ true
+  unfolding to-hand
+  hand-lacking e = rw (same-lack e)
 
-  pub write-full : lacking (s .window) due ≡ false → n < s .text + step-room → to-write s n ≡ true
-  unfolding to-write
-  write-full e i = rw (same-lack e, lt-ltb n (s .text + step-room) i)
+  pub hand-full : lacking (s .window) due ≡ false → n < s .text + step-room → to-hand s n ≡ true
+  unfolding to-hand
+  hand-full e i = rw (same-lack e, lt-ltb n (s .text + step-room) i)
 
-  -- written, and then filled
-  pub written : (f : Filled) (w : Window) (after : List ℕ) → f ≡ Ready w → to-write s n ≡ true → step-room ≤ n →
+  -- handed over, and then filled
+  pub filled-next : (f : Reading) (w : Window) (text : ℕ) (after : List ℕ) → f ≡ Ready w → text ≡ 0 → to-hand s n ≡ true → step-room ≤ n →
       (lacking (s .window) due ≡ false → (f ≡ Ready (s .window)) × (after ≡ before)) →
       filled-up (s .window) due before f after →
-      made-ready s before n (On (record { wall = s .wall; window = w; text = 0 })) after
+      made-ready s before n (On (record { wall = s .wall; window = w; text = text })) after
   unfolding made-ready filled-up
-  written f w after e t i idle up =
+  filled-next f w text after e none t i idle up =
       record {
         wall = refl;
         filled = rw due-is at (rw e at up);
         idle = λ k. let q = idle (ap (lacking (s .window)) due-is ∙ k) in let same : w ≡ s .window = cc in (same, q .1);
-        text = rw t;
-        room = i;
+        text = rw (t, none);
+        room = rw none i;
       }
 
-  pub not-written : (after : List ℕ) → made-ready s before n (Stop WriteFailed) after
+  pub not-handed : (after : List ℕ) → made-ready s before n (Stop WriteFailed) after
   unfolding made-ready
-  not-written after e = let z : _≡_ {A = ℕ} 0 1 = cc in omega arith
+  not-handed after e = let z : _≡_ {A = ℕ} 0 1 = cc in one-is-not z
 
   pub not-read : (after : List ℕ) → made-ready s before n (Stop ReadFailed) after
   unfolding made-ready
-  not-read after e = let z : _≡_ {A = ℕ} 0 1 = cc in omega arith
+  not-read after e = let z : _≡_ {A = ℕ} 0 1 = cc in one-is-not z
 
 -- the due part of a part, or what there is of it
 take-both : (a b : ℕ) (xs : List ℕ) (t : Bool) → ltb b a ≡ t → take a (take b xs) ≡ take (min a b) xs
@@ -103,7 +107,7 @@ drop-both a b xs false e i =
     let split : take b xs ≡ take a xs ++ take (b - a) (drop a xs) = rw sum at (take-add a (b - a) xs) in
     rw (less, split) (drop-at (take a xs) (take (b - a) (drop a xs)) a (length-take-le a xs (omega arith)))
 
-module _ (w : Window) (due : ℕ) (input : List ℕ) (i : Within w (length input)) where
+module _ (w : Window) (due : ℕ) (input : List ℕ) (i : In-buffer w (length input)) where
   abbrev size : ℕ
   size = w .end - w .start
 
@@ -126,7 +130,7 @@ module _ (w : Window) (due : ℕ) (input : List ℕ) (i : Within w (length input
       let count : w .end - stop ≡ size - min due size = omega (arith, i .ordered) in
       rw (count, sym (drop-drop (min due size) (w .start) input)) (sym (drop-both due size (drop (w .start) input) (ltb size due) refl long))
 
-  pub left-within : Within left (length input)
+  pub left-within : In-buffer left (length input)
   left-within = record { ordered = omega (arith, i .ordered); inside = i .inside }
 
 -- text that is written lies within the buffer
@@ -139,6 +143,10 @@ pub ready-on : (s : State) (before : List ℕ) (n : ℕ) (t : Turn) (r : State) 
     Made-ready s before n r after
 unfolding made-ready
 ready-on s before n t r after e m = rw e at m
+
+pub ready-off : (s : State) (before : List ℕ) (n : ℕ) (t : Turn) (e : Ended) (after : List ℕ) → t ≡ Stop e → made-ready s before n t after → e ≡ Done → ⊥
+unfolding made-ready
+ready-off s before n t e after is m = rw is at m
 
 pub ready-between : (s : State) (before : List ℕ) (n : ℕ) (r : State) (after : List ℕ) → Between s (length before) n → Made-ready s before n r after →
     Between r (length after) n

@@ -1,21 +1,25 @@
--- `finish` is safe and ends. Assumes nothing.
-use mathlib.Core.Path.{sym}
-use lib.Seq.{length-take-le}
+-- `finish` meets its contract. Assumes nothing.
+use mathlib.Core.Path.{refl}
+use native.Mathlib.Omega.{arith}
+use lib.ListN.{length-take}
+use Rattle.stream.specs.State.{finished}
 use borrow.Author.Needs.{needs}
 use Rattle.stream.proofs.finish.Statement.{statement}
 use Rattle.stream.proofs.finish.Tie as tie
 
-slice-aggregate-write-all : tie.Need-slice-aggregate-write-all
-slice-aggregate-write-all c = sym (length-take-le _ _ (c .before .before .pre .1))
+slice-aggregate-hand-over : tie.Need-slice-aggregate-hand-over
+slice-aggregate-hand-over c = simp length-take (omega (arith, c .before .before .pre .1))
 
-write-all-requires : tie.Need-write-all-requires
-write-all-requires c κs = search needs
+hand-over-requires : tie.Need-hand-over-requires
+hand-over-requires c κs = refl
 
 returns : tie.Need-returns
-returns c = search needs
+unfolding finished
+returns c = refl
 
 returns-2 : tie.Need-returns-2
-returns-2 c = search needs
+unfolding finished
+returns-2 c = rw (c .before .if1 .left)
 
 pub finish-spec : {M : Type 1} → statement M
-finish-spec = tie.close (tie.spec slice-aggregate-write-all write-all-requires returns returns-2)
+finish-spec = tie.close (tie.spec slice-aggregate-hand-over hand-over-requires returns returns-2)

@@ -1,14 +1,34 @@
 -- `ready` meets its contract. Assumes nothing.
-use mathlib.Core.Path.{sym, _∙_}
+use mathlib.Core.Path.{_≡_, refl, sym, _∙_}
+use mathlib.Core.Bool.{true}
 use mathlib.Core.Logic.{⊎-elim}
 use native.Mathlib.Omega.{arith}
 use borrow.Author.Tests.{not-true, not-false}
-use lib.ListN.{length}
-use lib.Seq.{length-take-le}
-use Rattle.stream.proofs.Laws.State.{at-once, write-lacking, write-full, written, not-written, not-read}
+use lib.ListN.{length, length-take}
+use Rattle.stream.specs.State.{to-hand}
+use Rattle.stream.proofs.Laws.State.{at-once, hand-lacking, hand-full, filled-next, not-handed, not-read}
 use borrow.Author.Needs.{needs}
 use Rattle.stream.proofs.ready.Statement.{statement}
 use Rattle.stream.proofs.ready.Tie as tie
+
+-- the start of the function, and where the text is handed over
+abbrev start : tie.After-due → tie.Start
+start c = c .before .before .before
+
+abbrev due : tie.Joined1 → tie.After-due
+due c = c .before .before .before
+
+abbrev handed : tie.After-slice-known2 → tie.Else3
+handed c = c .before .before .before .before
+
+to-be-handed : (c : tie.Joined1) → to-hand (start (due c) .args .state) (length (start (due c) .args .output .now)) ≡ true
+to-be-handed c =
+    let a = start (due c) .args in
+    let lacks = c .before .lacks .ensures in
+    ⊎-elim
+    (λ w. hand-full (a .state) (a .input .now) (length (a .output .now)) _ (due c .due .ensures .0) (sym lacks ∙ not-true _ (w .0 .taken)) (omega (arith, w .1 .left)))
+    (λ w. hand-lacking (a .state) (a .input .now) (length (a .output .now)) _ (due c .due .ensures .0) (sym lacks ∙ not-false _ (w .left)))
+    (c .if1 .came)
 
 due-requires : tie.Need-due-requires
 due-requires c κs = search needs
@@ -21,17 +41,17 @@ sub-if2 c = search needs
 
 returns : tie.Need-returns
 returns c =
-    let none = sym (c .before .before .lacks .ensures) ∙ not-true _ (c .before .if1 .taken) in
-    at-once _ _ _ _ (c .before .before .before .before .due .ensures .0) (c .before .before .before .before .before .before .before .pre .0) none (omega arith)
+    let d = c .before .before .before .before in
+    at-once _ _ _ _ (d .due .ensures .0) (start d .pre .0) (sym (c .before .before .lacks .ensures) ∙ not-true _ (c .before .if1 .taken)) (omega arith)
 
-slice-aggregate-write-all : tie.Need-slice-aggregate-write-all
-slice-aggregate-write-all c = sym (length-take-le _ _ (c .before .before .before .before .before .before .before .pre .0 .text))
+slice-aggregate-hand-over : tie.Need-slice-aggregate-hand-over
+slice-aggregate-hand-over c = simp length-take (omega (arith, start (due (c .before)) .pre .0 .text))
 
-write-all-requires : tie.Need-write-all-requires
-write-all-requires c κs = search needs
+hand-over-requires : tie.Need-hand-over-requires
+hand-over-requires c κs = refl
 
 returns-2 : tie.Need-returns-2
-returns-2 c = not-written _ _ _ _ (c .before .before .before .before .before .before .due .ensures .0) _
+returns-2 c = not-handed _ _ _ _ (due (c .before .before .before) .due .ensures .0) _
 
 fill-requires : tie.Need-fill-requires
 fill-requires c κs = search needs
@@ -47,21 +67,17 @@ same-length c = search needs
 
 returns-3 : tie.Need-returns-3
 returns-3 c =
-    let args = c .before .before .before .before .before .before .before .before .before .before .before .before .before .before .before .before .args in
-    let due-is = c .before .before .before .before .before .before .before .before .before .before .before .before .before .due .ensures .0 in
-    let lacks = c .before .before .before .before .before .before .before .before .before .before .before .lacks .ensures in
-    let to-write =
-    ⊎-elim (λ w. write-full (args .state) (args .input .now) (length (args .output .now)) _ due-is (sym lacks ∙ not-true _ (w .0 .taken)) (omega (arith, w .1 .left)))
-    (λ w. write-lacking (args .state) (args .input .now) (length (args .output .now)) _ due-is (sym lacks ∙ not-false _ (w .left)))
-    (c .before .before .before .before .before .before .before .before .before .before .if1 .came)
-    in
-    written (args .state) _ _ _ due-is _ _ _ (c .before .next .given .1) to-write (c .before .before .before .before .before .before .before .before .before .before .before .before .before .before .before .before .pre .2) (c .before .before .before .before .before .fill .ensures .0) (c .before .before .before .before .before .fill .ensures .1)
+    let f = c .before .before .before in
+    let h = handed f in
+    let j = h .before .before .before in
+    let s = start (due j) in
+    filled-next (s .args .state) _ _ _ (due j .due .ensures .0) _ _ _ _ (c .before .next .given .1) (h .if3 .left) (to-be-handed j) (s .pre .2) (f .before .before .fill .ensures .0) (f .before .before .fill .ensures .1)
 
 same-length-2 : tie.Need-same-length-2
 same-length-2 c = search needs
 
 returns-4 : tie.Need-returns-4
-returns-4 c = not-read _ _ _ _ (c .before .before .before .before .before .before .before .before .before .before .before .before .due .ensures .0) _
+returns-4 c = not-read _ _ _ _ (due (handed (c .before .before) .before .before .before) .due .ensures .0) _
 
 pub ready-spec : {M : Type 1} → statement M
 ready-spec =
@@ -71,8 +87,8 @@ ready-spec =
     lacks-requires
     sub-if2
     returns
-    slice-aggregate-write-all
-    write-all-requires
+    slice-aggregate-hand-over
+    hand-over-requires
     returns-2
     fill-requires
     enum-known-next

@@ -17,18 +17,18 @@ use Rattle.tile.proofs.answer.Tie as tie
 step-requires : tie.Need-step-requires
 step-requires c κs = let k = limits (c .args .settings) (c .pre .0) in (k .unit .1, k .drift)
 
-forward-requires : tie.Need-forward-requires
+adopted-requires : tie.Need-adopted-requires
 unfolding step-of
-forward-requires c κs = rw (c .step .ensures) (c .before .pre .1)
+adopted-requires c κs = rw (c .step .ensures) (c .before .pre .1)
 
 -- what the rule gives is P in closed form
-forwarded : (c : tie.After-forward) → let a = c .before .before .args in
-    c .forward .result ≡ closed-of (a .settings) (stamp-of (a .own)) (stamp-of (a .least)) (stamp-of (a .most))
+adopted-is : (c : tie.After-adopted) → let a = c .before .before .args in
+    c .adopted .result ≡ closed-of (a .settings) (stamp-of (a .own)) (stamp-of (a .least)) (stamp-of (a .most))
 unfolding step-of
-forwarded c = rw (c .before .step .ensures) at (c .forward .ensures)
+adopted-is c = rw (c .before .step .ensures) at (c .adopted .ensures)
 
-p-fits : (c : tie.After-forward) → c .forward .result < 2 ^ 63
-p-fits c = rw (forwarded c) (omega (arith, P-small (c .before .before .pre .1)))
+p-fits : (c : tie.After-adopted) → c .adopted .result < 2 ^ 63
+p-fits c = rw (adopted-is c) (omega (arith, P-small (c .before .before .pre .1)))
 
 cast-t8 : tie.Need-cast-t8
 cast-t8 c = record { sfits = p-fits (c .before) }
@@ -37,7 +37,7 @@ returns : tie.Need-returns
 returns c =
     let s = c .before .before .before in
     let a = s .args in
-    rw (toZ-pos w64 (c .before .forward .result) (p-fits (c .before)), forwarded (c .before), stamp-silent (a .own) (c .if1 .taken))
+    rw (toZ-pos w64 (c .before .adopted .result) (p-fits (c .before)), adopted-is (c .before), stamp-silent (a .own) (c .if1 .taken))
     (sym (answered-silent (a .settings) (s .pre .0) (stamps-ordered (s .pre .1))))
 
 cast-t9 : tie.Need-cast-t9
@@ -55,23 +55,23 @@ cast-t11 c = record { sfits = p-fits (c .before) }
 sub-t12 : tie.Need-sub-t12
 sub-t12 c =
     let own = c .before .before .before .args .own in
-    let p = c .before .forward .result in
+    let p = c .before .adopted .result in
     rw (toZ-pos w64 own (own-fits c), toZ-pos w64 p (p-fits (c .before))) (minus-fits own p (own-fits c) (p-fits (c .before)))
 
 returns-2 : tie.Need-returns-2
 returns-2 c =
     let s = c .before .before .before in
     let a = s .args in
-    let p = c .before .forward .result in
+    let p = c .before .adopted .result in
     rw (
       toZ-pos w64 (a .own) (own-fits c),
       toZ-pos w64 p (p-fits (c .before)),
       toZ-ofZ w64 (pos (a .own) -ℤ pos p) (minus-fits (a .own) p (own-fits c) (p-fits (c .before))),
-      forwarded (c .before),
+      adopted-is (c .before),
       stamp-heard (a .own) (c .if1 .left),
     )
     (sym (answered-heard (a .settings) (s .pre .0) (stamps-ordered (s .pre .1)) (a .own)))
 
 pub answer-spec : {M : Type 1} → statement M
 answer-spec =
-    tie.close (tie.spec step-requires forward-requires cast-t8 returns cast-t9 cast-t10 cast-t11 sub-t12 returns-2)
+    tie.close (tie.spec step-requires adopted-requires cast-t8 returns cast-t9 cast-t10 cast-t11 sub-t12 returns-2)

@@ -10,9 +10,9 @@ use borrow.Author.Tests.{eqb-false, ltb-true}
 use lib.Dec.{eqb}
 use lib.ListN.{length, take, drop, getD, set, length-drop}
 use lib.Seq.{take-suc, take-suc-set, drop-set-lt, getD-drop, drop-drop, take-take, take-add, drop-at, length-take-le}
-use Rattle.window.specs.Window.{Within, bytes-in, lacking, Placed, Read-on, read-on, filled-up}
-use Rattle.window.specs.declared.Filled.{Filled}
-use Rattle.window.specs.declared.Filled.the-variants.{Ready, Failed}
+use Rattle.window.specs.Window.{In-buffer, bytes-in, lacking, Placed, Read-on, read-on, filled-up}
+use Rattle.window.specs.declared.Reading.{Reading}
+use Rattle.window.specs.declared.Reading.the-variants.{Ready, Failed}
 use Rattle.window.specs.declared.Window.{Window}
 
 -- one byte more copied to the front
@@ -45,7 +45,7 @@ read-behind w before after n i j e =
       more = λ f. let some = eqb-false n 0 f in omega arith;
     }
 
-pub ready-on : (w : Window) (before : List ℕ) (f : Filled) (r : Window) (after : List ℕ) → f ≡ Ready r → read-on w before f after →
+pub ready-on : (w : Window) (before : List ℕ) (f : Reading) (r : Window) (after : List ℕ) → f ≡ Ready r → read-on w before f after →
     Read-on w before r after
 unfolding read-on
 ready-on w before f r after e on = rw e at on
@@ -90,7 +90,7 @@ same-part s m xs ys i j e =
     ∙ ap (drop s) (take-add s m ys) ∙ drop-at (take s ys) (take m (drop s ys)) s (length-take-le s ys j)
 
 -- the bytes of a window stand first in one that has grown behind it
-pub stand-first : (w r : Window) (before after : List ℕ) → Within w (length before) → Within r (length after) → length after ≡ length before →
+pub stand-first : (w r : Window) (before after : List ℕ) → In-buffer w (length before) → In-buffer r (length after) → length after ≡ length before →
     r .start ≡ w .start → w .end ≤ r .end → take (w .end) after ≡ take (w .end) before →
     take (w .end - w .start) (bytes-in r after) ≡ bytes-in w before
 unfolding bytes-in
@@ -102,7 +102,7 @@ stand-first w r before after i j long s g e =
     ∙ same-part (w .start) m after before (omega (arith, i .ordered, i .inside)) (omega (arith, i .ordered, i .inside)) (rw whole e))
 
 -- a window that is moved to the front
-pub moved : (w : Window) (due : ℕ) (before after : List ℕ) → Within w (length before) → due ≤ length before → length after ≡ length before →
+pub moved : (w : Window) (due : ℕ) (before after : List ℕ) → In-buffer w (length before) → due ≤ length before → length after ≡ length before →
     take (w .end - w .start) after ≡ take (w .end - w .start) (drop (w .start) before) →
     Placed w due before (record { start = 0; end = w .end - w .start; ended = w .ended }) after
 unfolding bytes-in
@@ -117,12 +117,12 @@ moved w due before after i j long e =
     }
 
 -- a window in which nothing is lacking
-pub filled-already : (w : Window) (due : ℕ) (xs : List ℕ) → Within w (length xs) → lacking w due ≡ false → filled-up w due xs (Ready w) xs
+pub filled-already : (w : Window) (due : ℕ) (xs : List ℕ) → In-buffer w (length xs) → lacking w due ≡ false → filled-up w due xs (Ready w) xs
 unfolding filled-up
 filled-already w due xs i e = record { within = i; first = stand-first w w xs xs i i refl refl (omega arith) refl; enough = e }
 
 -- moved, and then filled
-pub filled-moved : (w p : Window) (due : ℕ) (before mid : List ℕ) (f : Filled) (after : List ℕ) → Placed w due before p mid →
+pub filled-moved : (w p : Window) (due : ℕ) (before mid : List ℕ) (f : Reading) (after : List ℕ) → Placed w due before p mid →
     filled-up p due mid f after → filled-up w due before f after
 unfolding filled-up
 filled-moved w p due before mid (Ready r) after put up =

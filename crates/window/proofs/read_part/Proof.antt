@@ -6,14 +6,14 @@ use Prim.Native.Nat.{_-_, _≤_, _<_}
 use native.Mathlib.Omega.{arith}
 use borrow.Author.Needs.{needs}
 use lib.ListN.{length, take}
-use Rattle.window.specs.Window.{Within, filled-up}
+use Rattle.window.specs.Window.{In-buffer, filled-up}
 use Rattle.window.proofs.Laws.Window.{ready-on, to-read, lacking-some, reads-less, same-front, stand-first}
 use Rattle.window.proofs.read_part.Statement.{statement}
 use Rattle.window.proofs.read_part.Tie as tie
 
 abbrev Inv-loop : tie.InvT-loop
 Inv-loop from due input₀ window₀ input window =
-    Within window (length input) × (length input ≡ length input₀) × (window .start ≡ window₀ .start) × (window₀ .end ≤ window .end) × (take (window₀ .end) input ≡ take (window₀ .end) input₀)
+    In-buffer window (length input) × (length input ≡ length input₀) × (window .start ≡ window₀ .start) × (window₀ .end ≤ window .end) × (take (window₀ .end) input ≡ take (window₀ .end) input₀)
 
 abbrev μ-loop : tie.MeasureT-loop
 μ-loop from due input₀ window₀ input window = to-read due window
@@ -24,8 +24,8 @@ loop-holds c = (c .before .pre .0, refl, refl, omega arith, refl)
 lacks-requires : tie.Need-lacks-requires Inv-loop μ-loop
 lacks-requires c κs = search needs
 
-read-once-requires : tie.Need-read-once-requires Inv-loop μ-loop
-read-once-requires c κs =
+take-in-requires : tie.Need-take-in-requires Inv-loop μ-loop
+take-in-requires c κs =
     let at = c .before .before .before .loop in
     let args = c .before .before .before .before .before .args in
     let lacks : (at .window .ended ≡ false) × (at .window .end - at .window .start < args .due) =
@@ -39,14 +39,14 @@ loop-less : tie.Need-loop-less Inv-loop μ-loop
 loop-less c =
     let at = c .before .before .before .before .before .before .before .before .before .loop in
     let lacks = sym (c .before .before .before .before .before .before .before .before .lacks .ensures) ∙ c .before .before .before .before .before .before .before .if1 .taken in
-    let next = ready-on _ _ _ _ _ (c .before .next .given .1) (c .before .before .before .before .before .read-once .ensures) in
+    let next = ready-on _ _ _ _ _ (c .before .next .given .1) (c .before .before .before .before .before .take-in .ensures) in
     reads-less (at .window) _ _ (at .input) _ (at .inv .0 .ordered) lacks next
 
 loop-again : tie.Need-loop-again Inv-loop μ-loop
 loop-again c =
     let args = c .before .before .before .before .before .before .before .before .before .before .before .args in
     let at = c .before .before .before .before .before .before .before .before .before .loop in
-    let next = ready-on _ _ _ _ _ (c .before .next .given .1) (c .before .before .before .before .before .read-once .ensures) in
+    let next = ready-on _ _ _ _ _ (c .before .next .given .1) (c .before .before .before .before .before .take-in .ensures) in
     let still = same-front (args .window .end) (at .window .end) _ (at .input) (at .inv .3) (next .kept) in
     (next .within, omega arith, next .start ∙ at .inv .2, omega (arith, next .grown), still ∙ at .inv .4)
 
@@ -82,7 +82,7 @@ read-part-spec =
     μ-loop
     loop-holds
     lacks-requires
-    read-once-requires
+    take-in-requires
     enum-known-next
     loop-less
     loop-again

@@ -9,7 +9,8 @@ use borrow.Author.Tests.{not-false}
 use Rattle.settings.proofs.Laws.Settings.{Limits, limits}
 use Rattle.admission.specs.Call.{Call, call}
 use Rattle.pulse.specs.Pulse.{pulse}
-use Rattle.columns.specs.Marks.{mark-bytes, Plain}
+use Rattle.columns.specs.Marks.{mark-bytes}
+use Rattle.columns.specs.Plain.{Plain}
 use Rattle.row.specs.Progress.{Filled}
 use Rattle.admission.proofs.Laws.Accepted.{Accepted, accepted}
 use Rattle.pulse.proofs.Laws.Plain.{plain-tile, plain-pulse}

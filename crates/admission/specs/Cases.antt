@@ -1,0 +1,137 @@
+-- Row calls at numbers, each with what it is turned away with, 0 where it is accepted. The wall has W 6, d 100, u 10, A 400, r 0,
+-- h 12, or r 10,000 and h 16; what a case does not name is as in a call that is accepted. Assumes nothing.
+use mathlib.Core.Path.{_≡_}
+use mathlib.Core.List.{List, [], _∷_, map}
+use Prim.Native.Nat.{ℕ}
+use lib.ListN.{replicate, set}
+use Rattle.settings.specs.Settings.{settings}
+use Rattle.settings.specs.declared.Settings.{Settings}
+use Rattle.admission.specs.Call.{Call, call}
+use Rattle.admission.specs.Refusal.{row-refusal}
+
+pub record Case : Type 0 where
+  pub settings : Settings
+  pub before : List ℕ
+  pub call : Call
+  pub number : ℕ
+
+unfoldable pub case : Settings → (before marks drifts links : List ℕ) → (room number : ℕ) → Case
+case s ts ms ds ls room n = record { settings = s; before = ts; call = call ms ds ls room; number = n }
+
+unfoldable pub wall : Settings
+wall = settings 6 1 100 10 400 0 12
+
+-- W times of 1000 and W drifts of 0, one of them another; delays of 100, one of them another
+unfoldable pub times : List ℕ
+times = replicate 6 1000
+
+unfoldable pub time : (column t : ℕ) → List ℕ
+time c t = set times c t
+
+unfoldable pub drifts : List ℕ
+drifts = replicate 6 0
+
+unfoldable pub drift : (column p : ℕ) → List ℕ
+drift c p = set drifts c p
+
+unfoldable pub delays : List ℕ
+delays = replicate 20 100
+
+unfoldable pub value : (place v : ℕ) → List ℕ
+value i v = set delays i v
+
+unfoldable pub marks : ℕ → List ℕ
+marks b = b ∷ []
+
+-- 21: each lent row, one short and one long
+unfoldable pub lengths : List Case
+lengths =
+    case wall times (marks 0) drifts delays 6 0
+    ∷ case wall (replicate 5 1000) (marks 0) drifts delays 6 21
+    ∷ case wall (replicate 7 1000) (marks 0) drifts delays 6 21
+    ∷ case wall times [] drifts delays 6 21
+    ∷ case wall times (0 ∷ 0 ∷ []) drifts delays 6 21
+    ∷ case wall times (marks 0) (replicate 5 0) delays 6 21
+    ∷ case wall times (marks 0) (replicate 7 0) delays 6 21
+    ∷ case wall times (marks 0) drifts (replicate 19 100) 6 21
+    ∷ case wall times (marks 0) drifts (replicate 21 100) 6 21
+    ∷ case wall times (marks 0) drifts delays 5 21
+    ∷ case wall times (marks 0) drifts delays 7 21
+    ∷ []
+
+-- 22: the last column is 5, bit 32
+unfoldable pub strays : List Case
+strays =
+    case wall times (marks 32) drifts delays 6 0
+    ∷ case wall times (marks 64) drifts delays 6 22
+    ∷ case wall times (marks 128) drifts delays 6 22
+    ∷ []
+
+-- 23: times up to 2^40 - 1; a faulty tile's is not looked at
+unfoldable pub late-times : List Case
+late-times =
+    case wall (time 0 1099511627775) (marks 0) drifts delays 6 0
+    ∷ case wall (time 0 1099511627776) (marks 0) drifts delays 6 23
+    ∷ case wall (time 5 1099511627776) (marks 0) drifts delays 6 23
+    ∷ case wall (time 5 1099511627776) (marks 1) drifts delays 6 23
+    ∷ case wall (time 5 1099511627776) (marks 32) drifts delays 6 0
+    ∷ case wall (time 5 18446744073709551615) (marks 32) drifts delays 6 0
+    ∷ []
+
+-- 24: some tile hears columns 0 and 1, 0 and 3, 2 and 5; none hears 0 and 4, 1 and 4, or 0 and 5
+unfoldable pub crowds : List Case
+crowds =
+    case wall times (marks 3) drifts delays 6 24
+    ∷ case wall times (marks 9) drifts delays 6 24
+    ∷ case wall times (marks 36) drifts delays 6 24
+    ∷ case wall times (marks 17) drifts delays 6 0
+    ∷ case wall times (marks 18) drifts delays 6 0
+    ∷ case wall times (marks 33) drifts delays 6 0
+    ∷ []
+
+-- 25: drifts up to r
+unfoldable pub fast-clocks : List Case
+fast-clocks =
+    case wall times (marks 0) (drift 0 1) delays 6 25
+    ∷ case (settings 6 1 100 10 400 10000 16) times (marks 0) (drift 5 10000) delays 6 0
+    ∷ case (settings 6 1 100 10 400 10000 16) times (marks 0) (drift 5 10001) delays 6 25
+    ∷ []
+
+-- 26: delays from 90 to 100, in the first link and in the last, and no silence; faulty arrivals up to 2^40 - 1, or silence, where
+-- column 3 is broken and place 11 is its link to tile 3
+unfoldable pub links : List Case
+links =
+    case wall times (marks 0) drifts (value 0 89) 6 26
+    ∷ case wall times (marks 0) drifts (value 0 90) 6 0
+    ∷ case wall times (marks 0) drifts (value 19 100) 6 0
+    ∷ case wall times (marks 0) drifts (value 19 101) 6 26
+    ∷ case wall times (marks 0) drifts (value 11 18446744073709551615) 6 26
+    ∷ case wall times (marks 8) drifts (value 11 0) 6 0
+    ∷ case wall times (marks 8) drifts (value 11 1099511627775) 6 0
+    ∷ case wall times (marks 8) drifts (value 11 1099511627776) 6 26
+    ∷ case wall times (marks 8) drifts (value 11 18446744073709551614) 6 26
+    ∷ case wall times (marks 8) drifts (value 11 18446744073709551615) 6 0
+    ∷ case wall times (marks 8) drifts (value 10 89) 6 26
+    ∷ []
+
+-- where two apply, the lower: a settings number with 21, 21 with 22, 22 with 23, 23 with 24, 24 with 25, and 25 in the last column with
+-- 26 in the first
+unfoldable pub order : List Case
+order =
+    case (settings 6 1 100 10 191 0 12) (replicate 5 1000) (marks 0) drifts delays 6 9
+    ∷ case wall times (marks 64) (replicate 5 0) delays 6 21
+    ∷ case wall (time 0 1099511627776) (marks 64) drifts delays 6 22
+    ∷ case wall (time 5 1099511627776) (marks 3) drifts delays 6 23
+    ∷ case wall times (marks 3) (drift 0 1) delays 6 24
+    ∷ case wall times (marks 0) (drift 5 1) (value 0 89) 6 25
+    ∷ []
+
+-- each case has its number
+unfoldable pub found : Case → ℕ
+found x = row-refusal (x .settings) (x .before) (x .call)
+
+unfoldable pub Met : List Case → Type 0
+Met xs = map found xs ≡ map (λ x. x .number) xs
+
+unfoldable pub Refusals-met : Type 0
+Refusals-met = Met lengths × Met strays × Met late-times × Met crowds × Met fast-clocks × Met links × Met order

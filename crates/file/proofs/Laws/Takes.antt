@@ -1,0 +1,103 @@
+-- What calls of `take` write and answer over a file is what the steps over it show. Assumes nothing.
+use mathlib.Core.Path.{_≡_, refl, sym, _∙_, ap}
+use mathlib.Core.Bool.{true}
+use mathlib.Core.List.{List, _++_}
+use mathlib.Core.Option.{some}
+use Prim.Native.Nat.{ℕ, zero, suc, _+_, _≤_}
+use lib.ListN.{length, take, drop}
+use native.Mathlib.Omega.{arith}
+use borrow.Author.Tests.{ne-eqb}
+use Rattle.settings.proofs.Laws.Cases.{by-equal}
+use Rattle.stages.specs.Fit.{due-of, wall-fits}
+use Rattle.stages.specs.declared.Wall.{Wall}
+use Rattle.stages.specs.declared.Wall.the-variants.{New, Start, Row, End, Over}
+use Rattle.stages.proofs.Laws.{fits-due}
+use Rattle.steps.specs.Answer.{wall-of, number-due, row-then}
+use Rattle.steps.specs.Shown.{Shown}
+use Rattle.steps.specs.Step.{stepped, away, step-of, steps-shown}
+use Rattle.steps.specs.Take.{took, next-row, Taking}
+use Rattle.steps.specs.declared.Took.{Took}
+use Rattle.steps.specs.declared.Taken.{Taken}
+use Rattle.steps.specs.declared.Taken.the-variants as answer
+use Rattle.steps.proofs.Laws.Answer.{step-goes, step-away, took-goes, took-gone, row-goes-on}
+use Rattle.steps.proofs.Laws.Fit.{takes-both}
+use Rattle.steps.proofs.Laws.Taken.{Took-step, took-step}
+use Rattle.file.specs.File.{shown}
+use Rattle.file.specs.Takes as specs
+use Rattle.file.specs.Takes.{call-shows, lent-next, Take-calls}
+use Rattle.file.proofs.Laws.Calls.{any-row}
+use Rattle.file.proofs.Laws.Steps.{nothing-more, steps-right}
+
+-- the row that the next call is lent is the step's
+lent-is : (x : Wall) (row part held next : List ℕ) → next ≡ next-row x row part held → number-due x row part ≡ 0 →
+    lent-next x row next ≡ row-then x row part row
+unfolding lent-next row-then
+lent-is New row part held next w e = refl
+lent-is (Start p) row part held next w e = w ∙ row-goes-on row part held (Start p) e
+lent-is (Row p) row part held next w e = w ∙ row-goes-on row part held (Row p) e
+lent-is (End p) row part held next w e = refl
+lent-is Over row part held next w e = refl
+
+-- a call that took a step shows what the step shows, and the next goes on from there
+module _ (x : Wall) (row part held next : List ℕ) (t : Took) (k : Took-step x part row held t next) where
+  shows-is : call-shows x row part (answer.Took t) ≡ step-of x row part .shows
+  unfolding call-shows took stepped away
+  shows-is =
+      by-equal (number-due x row part) 0
+      (λ e. rw (k .is ∙ took-goes row part x e, step-goes row part x e))
+      (λ n. rw (k .is ∙ took-gone row part x n, step-away row part x n, ne-eqb (number-due x row part) 0 n))
+
+  goes-on : (m : ℕ) (rest : List ℕ) →
+      steps-shown m (step-of x row part .next) (step-of x row part .row) rest ≡ steps-shown m (t .wall) (lent-next x row next) rest
+  unfolding took stepped away
+  goes-on m rest =
+      by-equal (number-due x row part) 0
+      (λ e. rw (k .is ∙ took-goes row part x e, step-goes row part x e, lent-is x row part held next (k .written) e))
+      (λ n. rw (k .is ∙ took-gone row part x n, step-away row part x n, nothing-more m row rest) (sym (nothing-more m (lent-next x row next) rest)))
+
+-- what one step shows and those after it
+step-then : (m : ℕ) (x : Wall) (n : ℕ) (row rest : List ℕ) → wall-fits x n ≡ true →
+    let o = step-of x row (take (due-of x) rest) in
+    steps-shown (suc m) x row rest ≡ o .shows ++ steps-shown m (o .next) (o .row) (drop (due-of x) rest)
+unfolding steps-shown
+step-then m x n row rest e = rw (fits-due x n e)
+
+-- so many steps, or more, show this
+record Shows (x : Wall) (row rest : List ℕ) (shows : List Shown) : Type 0 where
+  pub steps : ℕ
+  pub is : (n : ℕ) → steps ≤ n → steps-shown n x row rest ≡ shows
+
+one-more : {x : Wall} {row rest : List ℕ} {shows : List Shown} (held : List ℕ) (a : Taken) (y : Wall) (next : List ℕ) →
+    Taking x (take (due-of x) rest) row held a next → wall-of a ≡ some y → Shows y (lent-next x row next) (drop (due-of x) rest) shows →
+    Shows x row rest (call-shows x row (take (due-of x) rest) a ++ shows)
+unfolding wall-of
+one-more {x} {row} {rest} {shows} held answer.Unfit y next d e k =
+    let never : _≡_ {A = ℕ} 0 1 = cc in absurd (let g : ⊥ = omega arith in g)
+one-more {x} {row} {rest} {shows} held (answer.Took t) y next d e k = record { steps = suc (k .steps); is = go }
+  where
+    part : List ℕ
+    part = take (due-of x) rest
+
+    s : Took-step x part row held t next
+    s = took-step d refl
+
+    go : (n : ℕ) → suc (k .steps) ≤ n → steps-shown n x row rest ≡ call-shows x row part (answer.Took t) ++ shows
+    go zero j = let never : ⊥ = omega arith in absurd never
+    go (suc m) j =
+        let wall : t .wall ≡ y = cc in
+        step-then m x (length row) row rest (takes-both x (length row) (length held) (s .fits) .0)
+        ∙ ap (λ (l : List Shown). step-of x row part .shows ++ l)
+        (goes-on x row part held next t s m (drop (due-of x) rest) ∙ rw wall (k .is m (omega arith)))
+        ∙ ap (λ (l : List Shown). l ++ shows) (sym (shows-is x row part held next t s))
+
+shows : {x : Wall} {row rest : List ℕ} {shows : List Shown} → Take-calls x row rest shows → Shows x row rest shows
+shows (specs.over {row} {rest}) = record { steps = 0; is = λ n i. nothing-more n row rest }
+shows (specs.lent {p} {row} {rest} held c) =
+    let k = shows c in
+    record { steps = k .steps; is = λ n i. any-row n p held row rest ∙ k .is n i }
+shows (specs.took held a y next d e c) = one-more held a y next d e (shows c)
+
+pub take-calls-right : (row file : List ℕ) (xs : List Shown) → Take-calls New row file xs → xs ≡ shown file
+take-calls-right row file xs c =
+    let k = shows c in
+    sym (k .is (k .steps + 1027) (omega arith)) ∙ steps-right row file (k .steps + 1027) (omega arith)

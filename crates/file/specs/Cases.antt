@@ -1,0 +1,145 @@
+-- Whole wall files, byte by byte, and what is printed of them, line by line: the wall that 01 prints, and a wall with a silent faulty
+-- tile and drifts. Assumes nothing.
+use mathlib.Core.Path.{_≡_}
+use mathlib.Core.List.{List, [], _∷_, _++_}
+use Prim.Native.Char.{code}
+use Prim.Native.Nat.{ℕ, _+_}
+use Prim.Native.String as string
+use Prim.Native.String.{String}
+use lib.ListN.{length, take, drop}
+use Rattle.file.specs.File.{wall-text}
+
+-- the characters of a text as numbers, and of lines that each end with a line feed
+unfoldable pub codes : String → List ℕ
+codes string.[] = []
+codes (string._∷_ c s) = code c ∷ codes s
+
+unfoldable pub printed : List String → List ℕ
+printed [] = []
+printed (s ∷ ss) = codes s ++ (10 ∷ printed ss)
+
+-- a file with other bytes from a place on
+unfoldable pub put : (at : ℕ) → (bytes file : List ℕ) → List ℕ
+put at bs file = take at file ++ bs ++ drop (at + length bs) file
+
+-- "A wall printed whole"
+unfoldable pub printed-file : List ℕ
+printed-file =
+    -- tag 1: W 6, R 1; d 100, u 10, A 400, r 0, h 12
+    (1 ∷ 0 ∷ 24 ∷ [])
+    ++ (0 ∷ 6 ∷ 0 ∷ 1 ∷ [])
+    ++ (0 ∷ 0 ∷ 0 ∷ 100 ∷ 0 ∷ 0 ∷ 0 ∷ 10 ∷ 0 ∷ 0 ∷ 1 ∷ 144 ∷ 0 ∷ 0 ∷ 0 ∷ 0 ∷ 0 ∷ 0 ∷ 0 ∷ 12 ∷ [])
+    -- tag 2: row 0
+    ++ (2 ∷ 0 ∷ 48 ∷ [])
+    ++ (0 ∷ 0 ∷ 0 ∷ 0 ∷ 0 ∷ 0 ∷ 3 ∷ 232 ∷ 0 ∷ 0 ∷ 0 ∷ 0 ∷ 0 ∷ 0 ∷ 3 ∷ 232 ∷ 0 ∷ 0 ∷ 0 ∷ 0 ∷ 0 ∷ 0 ∷ 3 ∷ 232 ∷ [])
+    ++ (0 ∷ 0 ∷ 0 ∷ 0 ∷ 0 ∷ 0 ∷ 4 ∷ 56 ∷ 0 ∷ 0 ∷ 0 ∷ 0 ∷ 0 ∷ 0 ∷ 3 ∷ 232 ∷ 0 ∷ 0 ∷ 0 ∷ 0 ∷ 0 ∷ 0 ∷ 3 ∷ 232 ∷ [])
+    -- tag 3: no marks
+    ++ (3 ∷ 0 ∷ 1 ∷ 0 ∷ [])
+    -- tag 4: a tile a line, drift 0 and links 100
+    ++ (4 ∷ 0 ∷ 172 ∷ [])
+    ++ (0 ∷ 0 ∷ 0 ∷ 0 ∷ 0 ∷ 0 ∷ 0 ∷ 0 ∷ 0 ∷ 100 ∷ 0 ∷ 0 ∷ 0 ∷ 0 ∷ 0 ∷ 0 ∷ 0 ∷ 100 ∷ 0 ∷ 0 ∷ 0 ∷ 0 ∷ 0 ∷ 0 ∷ 0 ∷ 100 ∷ [])
+    ++ (0 ∷ 0 ∷ 0 ∷ 0 ∷ 0 ∷ 0 ∷ 0 ∷ 0 ∷ 0 ∷ 100 ∷ 0 ∷ 0 ∷ 0 ∷ 0 ∷ 0 ∷ 0 ∷ 0 ∷ 100 ∷ 0 ∷ 0 ∷ 0 ∷ 0 ∷ 0 ∷ 0 ∷ 0 ∷ 100 ∷ [])
+    ++ (0 ∷ 0 ∷ 0 ∷ 0 ∷ 0 ∷ 0 ∷ 0 ∷ 0 ∷ 0 ∷ 100 ∷ 0 ∷ 0 ∷ 0 ∷ 0 ∷ 0 ∷ 0 ∷ 0 ∷ 100 ∷ 0 ∷ 0 ∷ 0 ∷ 0 ∷ 0 ∷ 0 ∷ 0 ∷ 100 ∷ 0 ∷ 0 ∷ 0 ∷ 0 ∷ 0 ∷ 0 ∷ 0 ∷ 100 ∷ [])
+    ++ (0 ∷ 0 ∷ 0 ∷ 0 ∷ 0 ∷ 0 ∷ 0 ∷ 0 ∷ 0 ∷ 100 ∷ 0 ∷ 0 ∷ 0 ∷ 0 ∷ 0 ∷ 0 ∷ 0 ∷ 100 ∷ 0 ∷ 0 ∷ 0 ∷ 0 ∷ 0 ∷ 0 ∷ 0 ∷ 100 ∷ 0 ∷ 0 ∷ 0 ∷ 0 ∷ 0 ∷ 0 ∷ 0 ∷ 100 ∷ [])
+    ++ (0 ∷ 0 ∷ 0 ∷ 0 ∷ 0 ∷ 0 ∷ 0 ∷ 0 ∷ 0 ∷ 100 ∷ 0 ∷ 0 ∷ 0 ∷ 0 ∷ 0 ∷ 0 ∷ 0 ∷ 100 ∷ 0 ∷ 0 ∷ 0 ∷ 0 ∷ 0 ∷ 0 ∷ 0 ∷ 100 ∷ [])
+    ++ (0 ∷ 0 ∷ 0 ∷ 0 ∷ 0 ∷ 0 ∷ 0 ∷ 0 ∷ 0 ∷ 100 ∷ 0 ∷ 0 ∷ 0 ∷ 0 ∷ 0 ∷ 0 ∷ 0 ∷ 100 ∷ 0 ∷ 0 ∷ 0 ∷ 0 ∷ 0 ∷ 0 ∷ 0 ∷ 100 ∷ [])
+
+unfoldable pub Printed-whole : Type 0
+Printed-whole =
+    wall-text printed-file
+    ≡ printed
+    ("t 1 0 1500"
+    ∷ "t 1 1 1500"
+    ∷ "t 1 2 1500"
+    ∷ "t 1 3 1536"
+    ∷ "t 1 4 1500"
+    ∷ "t 1 5 1500"
+    ∷ "s 1 0 1 4097700000000000 0000000000000000"
+    ∷ "s 1 0 2 4097700000000000 0000000000000000"
+    ∷ "s 1 1 2 4097700000000000 0000000000000000"
+    ∷ "s 1 2 3 4097b80000000000 4032000000000000"
+    ∷ "s 1 3 4 4097b80000000000 c032000000000000"
+    ∷ "s 1 3 5 4097b80000000000 c032000000000000"
+    ∷ "s 1 4 5 4097700000000000 0000000000000000"
+    ∷ [])
+
+-- with a byte more its last row is not shown
+unfoldable pub Byte-more : Type 0
+Byte-more = wall-text (printed-file ++ (0 ∷ [])) ≡ printed ("refused 44 at 257" ∷ [])
+
+-- a wall of two rows whose clocks drift, with a faulty tile in row 1
+unfoldable pub faulty-file : List ℕ
+faulty-file =
+    -- tag 1: W 6, R 2; d 100, u 10, A 400, r 10000, h 16
+    (1 ∷ 0 ∷ 24 ∷ [])
+    ++ (0 ∷ 6 ∷ 0 ∷ 2 ∷ [])
+    ++ (0 ∷ 0 ∷ 0 ∷ 100 ∷ 0 ∷ 0 ∷ 0 ∷ 10 ∷ 0 ∷ 0 ∷ 1 ∷ 144 ∷ 0 ∷ 0 ∷ 39 ∷ 16 ∷ 0 ∷ 0 ∷ 0 ∷ 16 ∷ [])
+    -- tag 2: row 0 is 1000, 1010, 1020, 1080, 990, 1000
+    ++ (2 ∷ 0 ∷ 48 ∷ [])
+    ++ (0 ∷ 0 ∷ 0 ∷ 0 ∷ 0 ∷ 0 ∷ 3 ∷ 232 ∷ 0 ∷ 0 ∷ 0 ∷ 0 ∷ 0 ∷ 0 ∷ 3 ∷ 242 ∷ 0 ∷ 0 ∷ 0 ∷ 0 ∷ 0 ∷ 0 ∷ 3 ∷ 252 ∷ [])
+    ++ (0 ∷ 0 ∷ 0 ∷ 0 ∷ 0 ∷ 0 ∷ 4 ∷ 56 ∷ 0 ∷ 0 ∷ 0 ∷ 0 ∷ 0 ∷ 0 ∷ 3 ∷ 222 ∷ 0 ∷ 0 ∷ 0 ∷ 0 ∷ 0 ∷ 0 ∷ 3 ∷ 232 ∷ [])
+    -- tag 3: no marks in row 0
+    ++ (3 ∷ 0 ∷ 1 ∷ 0 ∷ [])
+    -- tag 4: row 1, a tile a line; drifts 0, 10000, 5000, 1, 2500, 9999
+    ++ (4 ∷ 0 ∷ 172 ∷ [])
+    ++ (0 ∷ 0 ∷ 0 ∷ 0 ∷ 0 ∷ 0 ∷ 0 ∷ 0 ∷ 0 ∷ 90 ∷ 0 ∷ 0 ∷ 0 ∷ 0 ∷ 0 ∷ 0 ∷ 0 ∷ 97 ∷ 0 ∷ 0 ∷ 0 ∷ 0 ∷ 0 ∷ 0 ∷ 0 ∷ 93 ∷ [])
+    ++ (39 ∷ 16 ∷ 0 ∷ 0 ∷ 0 ∷ 0 ∷ 0 ∷ 0 ∷ 0 ∷ 93 ∷ 0 ∷ 0 ∷ 0 ∷ 0 ∷ 0 ∷ 0 ∷ 0 ∷ 100 ∷ 0 ∷ 0 ∷ 0 ∷ 0 ∷ 0 ∷ 0 ∷ 0 ∷ 96 ∷ [])
+    ++ (19 ∷ 136 ∷ 0 ∷ 0 ∷ 0 ∷ 0 ∷ 0 ∷ 0 ∷ 0 ∷ 96 ∷ 0 ∷ 0 ∷ 0 ∷ 0 ∷ 0 ∷ 0 ∷ 0 ∷ 92 ∷ 0 ∷ 0 ∷ 0 ∷ 0 ∷ 0 ∷ 0 ∷ 0 ∷ 99 ∷ 0 ∷ 0 ∷ 0 ∷ 0 ∷ 0 ∷ 0 ∷ 0 ∷ 95 ∷ [])
+    ++ (0 ∷ 1 ∷ 0 ∷ 0 ∷ 0 ∷ 0 ∷ 0 ∷ 0 ∷ 0 ∷ 91 ∷ 0 ∷ 0 ∷ 0 ∷ 0 ∷ 0 ∷ 0 ∷ 0 ∷ 98 ∷ 0 ∷ 0 ∷ 0 ∷ 0 ∷ 0 ∷ 0 ∷ 0 ∷ 94 ∷ 0 ∷ 0 ∷ 0 ∷ 0 ∷ 0 ∷ 0 ∷ 0 ∷ 90 ∷ [])
+    ++ (9 ∷ 196 ∷ 0 ∷ 0 ∷ 0 ∷ 0 ∷ 0 ∷ 0 ∷ 0 ∷ 90 ∷ 0 ∷ 0 ∷ 0 ∷ 0 ∷ 0 ∷ 0 ∷ 0 ∷ 97 ∷ 0 ∷ 0 ∷ 0 ∷ 0 ∷ 0 ∷ 0 ∷ 0 ∷ 93 ∷ [])
+    ++ (39 ∷ 15 ∷ 0 ∷ 0 ∷ 0 ∷ 0 ∷ 0 ∷ 0 ∷ 0 ∷ 93 ∷ 0 ∷ 0 ∷ 0 ∷ 0 ∷ 0 ∷ 0 ∷ 0 ∷ 100 ∷ 0 ∷ 0 ∷ 0 ∷ 0 ∷ 0 ∷ 0 ∷ 0 ∷ 96 ∷ [])
+    -- tag 3: column 2 of row 1 is marked
+    ++ (3 ∷ 0 ∷ 1 ∷ 4 ∷ [])
+    -- tag 4: row 2; drifts 10000, 0, 1, 10000, 1234, 5000; column 2 is silent to tiles 0, 1 and 2, and arrives at tile 3 at 1640
+    ++ (4 ∷ 0 ∷ 172 ∷ [])
+    ++ (39 ∷ 16 ∷ 0 ∷ 0 ∷ 0 ∷ 0 ∷ 0 ∷ 0 ∷ 0 ∷ 90 ∷ 0 ∷ 0 ∷ 0 ∷ 0 ∷ 0 ∷ 0 ∷ 0 ∷ 92 ∷ 255 ∷ 255 ∷ 255 ∷ 255 ∷ 255 ∷ 255 ∷ 255 ∷ 255 ∷ [])
+    ++ (0 ∷ 0 ∷ 0 ∷ 0 ∷ 0 ∷ 0 ∷ 0 ∷ 0 ∷ 0 ∷ 95 ∷ 0 ∷ 0 ∷ 0 ∷ 0 ∷ 0 ∷ 0 ∷ 0 ∷ 97 ∷ 255 ∷ 255 ∷ 255 ∷ 255 ∷ 255 ∷ 255 ∷ 255 ∷ 255 ∷ [])
+    ++ (0 ∷ 1 ∷ 0 ∷ 0 ∷ 0 ∷ 0 ∷ 0 ∷ 0 ∷ 0 ∷ 100 ∷ 0 ∷ 0 ∷ 0 ∷ 0 ∷ 0 ∷ 0 ∷ 0 ∷ 91 ∷ 255 ∷ 255 ∷ 255 ∷ 255 ∷ 255 ∷ 255 ∷ 255 ∷ 255 ∷ 0 ∷ 0 ∷ 0 ∷ 0 ∷ 0 ∷ 0 ∷ 0 ∷ 95 ∷ [])
+    ++ (39 ∷ 16 ∷ 0 ∷ 0 ∷ 0 ∷ 0 ∷ 0 ∷ 0 ∷ 6 ∷ 104 ∷ 0 ∷ 0 ∷ 0 ∷ 0 ∷ 0 ∷ 0 ∷ 0 ∷ 100 ∷ 0 ∷ 0 ∷ 0 ∷ 0 ∷ 0 ∷ 0 ∷ 0 ∷ 91 ∷ 0 ∷ 0 ∷ 0 ∷ 0 ∷ 0 ∷ 0 ∷ 0 ∷ 93 ∷ [])
+    ++ (4 ∷ 210 ∷ 0 ∷ 0 ∷ 0 ∷ 0 ∷ 0 ∷ 0 ∷ 0 ∷ 94 ∷ 0 ∷ 0 ∷ 0 ∷ 0 ∷ 0 ∷ 0 ∷ 0 ∷ 96 ∷ 0 ∷ 0 ∷ 0 ∷ 0 ∷ 0 ∷ 0 ∷ 0 ∷ 98 ∷ [])
+    ++ (19 ∷ 136 ∷ 0 ∷ 0 ∷ 0 ∷ 0 ∷ 0 ∷ 0 ∷ 0 ∷ 99 ∷ 0 ∷ 0 ∷ 0 ∷ 0 ∷ 0 ∷ 0 ∷ 0 ∷ 90 ∷ 0 ∷ 0 ∷ 0 ∷ 0 ∷ 0 ∷ 0 ∷ 0 ∷ 92 ∷ [])
+
+unfoldable pub first-lines : List String
+first-lines =
+    "t 1 0 1490"
+    ∷ "t 1 1 1504"
+    ∷ "t 1 2 -"
+    ∷ "t 1 3 1545"
+    ∷ "t 1 4 1486"
+    ∷ "t 1 5 1492"
+    ∷ "s 1 0 1 4097640000000000 401c000000000000"
+    ∷ "s 1 0 2 open right"
+    ∷ "s 1 1 2 open right"
+    ∷ "s 1 2 3 open left"
+    ∷ "s 1 3 4 4097ae0000000000 c03d800000000000"
+    ∷ "s 1 3 5 4097ba0000000000 c03a800000000000"
+    ∷ "s 1 4 5 4097440000000000 4008000000000000"
+    ∷ []
+
+unfoldable pub second-lines : List String
+second-lines =
+    "t 2 0 1976"
+    ∷ "t 2 1 2001"
+    ∷ "t 2 2 2088"
+    ∷ "t 2 3 2008"
+    ∷ "t 2 4 1981"
+    ∷ "t 2 5 1982"
+    ∷ "s 2 0 1 409f120000000000 4029000000000000"
+    ∷ "s 2 0 2 409fc00000000000 404c000000000000"
+    ∷ "s 2 1 2 409ff20000000000 4045c00000000000"
+    ∷ "s 2 2 3 40a0000000000000 c044000000000000"
+    ∷ "s 2 3 4 409f2a0000000000 c02b000000000000"
+    ∷ "s 2 3 5 409f2c0000000000 c02a000000000000"
+    ∷ "s 2 4 5 409ef60000000000 3fe0000000000000"
+    ∷ []
+
+unfoldable pub Faulty-printed : Type 0
+Faulty-printed = wall-text faulty-file ≡ printed (first-lines ++ second-lines)
+
+-- a drift of 10001 in row 2: "25 a drift over r", and row 1 is not shown
+unfoldable pub Second-row-refused : Type 0
+Second-row-refused = wall-text (put 350 (39 ∷ 17 ∷ []) faulty-file) ≡ printed ("refused 25 at 261" ∷ [])
+
+-- with a byte more row 1 is shown and row 2 is not
+unfoldable pub Faulty-byte-more : Type 0
+Faulty-byte-more = wall-text (faulty-file ++ (3 ∷ [])) ≡ printed (first-lines ++ ("refused 44 at 436" ∷ []))

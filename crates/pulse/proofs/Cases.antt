@@ -1,0 +1,31 @@
+-- Pulses at numbers, by computing them. Assumes nothing.
+use mathlib.Core.Path.{refl}
+use Rattle.settings.specs.Rounding.{up}
+use Rattle.settings.specs.Settings.{settings, step, step-of}
+use Rattle.rule.specs.Clock.{reads, first-tick}
+use Rattle.rule.specs.Signed.{larger, smaller, natural}
+use Rattle.rule.specs.Stamp.{earlier, later, earliest, latest, stamp-of}
+use Rattle.rule.specs.Forward.{larger-at, least-to, D, heard-correction, P}
+use Rattle.rule.specs.Pulse.{tile-P, tile-pulse}
+use Rattle.columns.specs.Columns.{are-neighbours, columns-from, neighbours, is-predecessor, predecessors, links-before, place-in, link-place, link, table-from}
+use Rattle.columns.specs.Marks.{marked}
+use Rattle.admission.specs.Call.{call}
+use Rattle.admission.specs.Cases.{wall, times, time, drifts, drift, delays, marks}
+use Rattle.pulse.specs.Pulse.{arrives, arrival, read-at, stamp, pulse}
+use Rattle.pulse.specs.Cases.{pulses, sent, Printed-met, Broken-met, Unread-met, Drift-met}
+
+computed : Printed-met × Broken-met × Unread-met × Drift-met
+unfolding Printed-met Broken-met Unread-met Drift-met pulses sent wall times time drifts drift delays marks settings call table-from pulse tile-pulse tile-P P heard-correction D least-to larger-at larger smaller natural stamp arrival arrives read-at reads first-tick up stamp-of earliest latest earlier later step-of step neighbours are-neighbours columns-from marked link link-place links-before place-in predecessors is-predecessor
+computed = (refl, (refl, refl, refl, refl), refl, (refl, refl))
+
+pub printed-met : Printed-met
+printed-met = computed .0
+
+pub broken-met : Broken-met
+broken-met = computed .1
+
+pub unread-met : Unread-met
+unread-met = computed .2
+
+pub drift-met : Drift-met
+drift-met = computed .3

@@ -1,0 +1,79 @@
+-- A step by the number of its part: what it leaves where the part is accepted, and where it is turned away. Assumes nothing.
+use mathlib.Core.Path.{_≡_, refl, sym, _∙_, ap}
+use mathlib.Core.List.{List}
+use Prim.Native.Nat.{ℕ}
+use lib.ListN.{length}
+use native.Mathlib.Omega.{arith}
+use borrow.Author.Tests.{eq-eqb, ne-eqb}
+use Rattle.settings.proofs.Laws.Cases.{by-equal}
+use Rattle.stages.specs.declared.Wall.{Wall}
+use Rattle.stages.specs.declared.Wall.the-variants.{New, Start, Row, End, Over}
+use Rattle.steps.specs.Answer.{number-due, offset-due, wall-then, row-then, shown-then}
+use Rattle.steps.specs.Shown.{no-marks, number-shown, offset-shown}
+use Rattle.contents.specs.Contents.{marks-in}
+use Rattle.steps.specs.Step.{stepped, away, step-of}
+use Rattle.steps.specs.Take.{took, took-of, row-left, next-row}
+use Rattle.steps.proofs.Laws.Taken.{settings-away, settings-goes, start-away, start-goes, row-away, row-goes, end-away, end-goes, no-number, took-away, left-away, took-on, left-on}
+
+module _ (row bs : List ℕ) where
+  pub step-goes : (x : Wall) → number-due x row bs ≡ 0 → step-of x row bs ≡ stepped (wall-then x bs) (row-then x row bs row) (shown-then x row bs)
+  unfolding step-of number-due wall-then row-then shown-then
+  step-goes New e = settings-goes row bs e
+  step-goes (Start p) e = start-goes row bs (p .settings) (p .offset) e
+  step-goes (Row p) e = row-goes row bs (p .settings) (p .offset) (p .row) e
+  step-goes (End p) e =
+      by-equal (length bs) 0
+      (λ z. end-goes row bs (p .settings) (p .offset) (p .row) z)
+      (λ k. let never : ⊥ = omega (arith, rw (ne-eqb (length bs) 0 k) at e) in absurd never)
+  step-goes Over e = refl
+
+  pub step-away : (x : Wall) → (number-due x row bs ≡ 0 → ⊥) → step-of x row bs ≡ away row (number-due x row bs) (offset-due x bs)
+  unfolding step-of number-due offset-due
+  step-away New k = settings-away row bs _ refl k
+  step-away (Start p) k = start-away row bs (p .settings) (p .offset) _ refl k
+  step-away (Row p) k = row-away row bs (p .settings) (p .offset) (p .row) _ _ refl k refl
+  step-away (End p) k =
+      by-equal (length bs) 0
+      (λ z. absurd (k (rw (eq-eqb (length bs) 0 z))))
+      (λ n. end-away row bs (p .settings) (p .offset) (p .row) n ∙ rw (ne-eqb (length bs) 0 n))
+  step-away Over k = absurd (k refl)
+
+  -- what is shown of an accepted part is no refusal
+  no-refusal : (x : Wall) → (number-shown (shown-then x row bs) ≡ 0) × (offset-shown (shown-then x row bs) ≡ 0)
+  unfolding shown-then number-shown offset-shown
+  no-refusal New = (refl, refl)
+  no-refusal (Start p) = (refl, refl)
+  no-refusal (Row p) = no-number (p .settings) (p .row) (marks-in (p .settings .width) bs) row
+  no-refusal (End p) = no-number (p .settings) (p .row) (no-marks (p .settings .width)) row
+  no-refusal Over = (refl, refl)
+
+  -- the answer's values
+  pub took-goes : (x : Wall) → number-due x row bs ≡ 0 → took-of (step-of x row bs) ≡ took (wall-then x bs) 0 0
+  took-goes x e = ap took-of (step-goes x e) ∙ took-on _ row (wall-then x bs) (shown-then x row bs) (no-refusal x .0) (no-refusal x .1)
+
+  pub took-gone : (x : Wall) → (number-due x row bs ≡ 0 → ⊥) → took-of (step-of x row bs) ≡ took Over (number-due x row bs) (offset-due x bs)
+  took-gone x k = ap took-of (step-away x k) ∙ took-away row row _ _
+
+  -- and the row that is written
+  module _ (held : List ℕ) where
+    left-goes : (x : Wall) → number-due x row bs ≡ 0 → row-left (step-of x row bs) held ≡ row-then x row bs row
+    left-goes x e = ap (λ o. row-left o held) (step-goes x e) ∙ left-on _ held (wall-then x bs) (shown-then x row bs) (no-refusal x .0)
+
+    left-gone : (x : Wall) → (number-due x row bs ≡ 0 → ⊥) → row-left (step-of x row bs) held ≡ held
+    left-gone x k = ap (λ o. row-left o held) (step-away x k) ∙ left-away row held _ _ k
+
+    pub row-goes-on : (x : Wall) → number-due x row bs ≡ 0 → next-row x row bs held ≡ row-then x row bs held
+    unfolding next-row row-then
+    row-goes-on New e = refl
+    row-goes-on (Start p) e = left-goes (Start p) e
+    row-goes-on (Row p) e = left-goes (Row p) e
+    row-goes-on (End p) e = refl
+    row-goes-on Over e = refl
+
+    pub row-stays : (x : Wall) → (number-due x row bs ≡ 0 → ⊥) → next-row x row bs held ≡ held
+    unfolding next-row
+    row-stays New k = refl
+    row-stays (Start p) k = left-gone (Start p) k
+    row-stays (Row p) k = left-gone (Row p) k
+    row-stays (End p) k = refl
+    row-stays Over k = refl

@@ -1,0 +1,74 @@
+-- What the answer of a step means, and what it is in each case of 01. Assumes nothing.
+use mathlib.Core.Bool.{cond}
+use mathlib.Core.List.{List, []}
+use mathlib.Core.Option.{Option, none, some}
+use Prim.Native.Nat.{ℕ, suc, _+_}
+use lib.Dec.{eqb}
+use lib.ListN.{length}
+use Rattle.row.specs.Row.{row-of}
+use Rattle.fields.specs.Field.{body}
+use Rattle.contents.specs.Contents.{settings-size, settings-in, start-size, times-in, row-size, marks-in, call-in}
+use Rattle.stages.specs.Fit.{place}
+use Rattle.stages.specs.declared.Wall.{Wall}
+use Rattle.stages.specs.declared.Wall.the-variants.{New, Start, Row, End, Over}
+use Rattle.steps.specs.Number.{settings-number, start-number, row-number, row-offset}
+use Rattle.steps.specs.Shown.{Shown, row-shown, no-marks}
+use Rattle.steps.specs.Step.{after-row}
+use Rattle.steps.specs.declared.Taken.{Taken}
+use Rattle.steps.specs.declared.Taken.the-variants as answer
+
+-- 01's number in each case of the answer, 0 where the part is accepted; what does not fit has none
+unfoldable pub number-of : Taken → Option ℕ
+number-of (answer.Took t) = some (t .number)
+number-of answer.Unfit = none
+
+-- the offset that comes with a refusal
+unfoldable pub offset-of : Taken → Option ℕ
+offset-of (answer.Took t) = cond (eqb (t .number) 0) none (some (t .offset))
+offset-of answer.Unfit = none
+
+-- the wall afterwards
+unfoldable pub wall-of : Taken → Option Wall
+wall-of (answer.Took t) = some (t .wall)
+wall-of answer.Unfit = none
+
+-- by what is due: the number of the part, 0 where it is accepted
+unfoldable pub number-due : Wall → (row part : List ℕ) → ℕ
+number-due New ts bs = settings-number bs
+number-due (Start p) ts bs = start-number (p .settings) bs
+number-due (Row p) ts bs = row-number (p .settings) ts bs
+number-due (End p) ts bs = cond (eqb (length bs) 0) 0 44
+number-due Over ts bs = 0
+
+-- .. where it is turned away: "byte offset of the field's tag (for 44, of the first extra byte; for 43, of the field due; for 22 to
+-- 26, of tag 4)"
+unfoldable pub offset-due : Wall → (part : List ℕ) → ℕ
+offset-due New bs = 0
+offset-due (Start p) bs = p .offset
+offset-due (Row p) bs = row-offset (p .settings) (p .offset) bs
+offset-due (End p) bs = p .offset
+offset-due Over bs = 0
+
+-- .. and once it is accepted: what is due next
+unfoldable pub wall-then : Wall → (part : List ℕ) → Wall
+wall-then New bs = Start (place (settings-in (body settings-size bs)) 0 (3 + settings-size))
+wall-then (Start p) bs = Row (place (p .settings) 0 (p .offset + (3 + start-size (p .settings .width))))
+wall-then (Row p) bs = after-row (p .settings) (suc (p .row)) (p .offset + row-size (p .settings .width))
+wall-then (End p) bs = Over
+wall-then Over bs = Over
+
+-- .. the row that is written, row 0 or the next
+unfoldable pub row-then : Wall → (row part held : List ℕ) → List ℕ
+row-then New ts bs held = held
+row-then (Start p) ts bs held = times-in (p .settings .width) (body (start-size (p .settings .width)) bs)
+row-then (Row p) ts bs held = row-of (p .settings) ts (call-in (p .settings .width) bs)
+row-then (End p) ts bs held = held
+row-then Over ts bs held = held
+
+-- .. and what is then shown: the last row, since the next is accepted or the file has ended rightly
+unfoldable pub shown-then : Wall → (row part : List ℕ) → List Shown
+shown-then New ts bs = []
+shown-then (Start p) ts bs = []
+shown-then (Row p) ts bs = row-shown (p .settings) (p .row) (marks-in (p .settings .width) bs) ts
+shown-then (End p) ts bs = row-shown (p .settings) (p .row) (no-marks (p .settings .width)) ts
+shown-then Over ts bs = []

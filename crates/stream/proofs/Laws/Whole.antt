@@ -1,0 +1,65 @@
+-- What a chain of turns has told is a beginning of the whole, and all of it once the wall is over. Assumes nothing.
+use mathlib.Core.Path.{_≡_, refl, sym, _∙_, ap}
+use mathlib.Core.Bool.{Bool, true, false, true≢false}
+use mathlib.Core.List.{List, [], _++_, append-nil, append-assoc}
+use lib.Dec.{ltb}
+use Prim.Native.Nat.{ℕ}
+use lib.ListN.{length, take, drop}
+use lib.Seq.{take-at}
+use Rattle.stages.specs.Fit.{due-of, width-of}
+use Rattle.stages.specs.declared.Wall.{Wall}
+use Rattle.stages.specs.declared.Wall.the-variants.{New, Over}
+use Rattle.file.specs.Stands.{Stands}
+use Rattle.stream.specs.Run.{Step, brings, Turns, begins, reads, ends, steps}
+use Rattle.stream.specs.State.{Ends}
+use Rattle.stream.specs.Promises.{Run-right}
+use Rattle.stream.proofs.Laws.Held.{held-part}
+
+-- `from` is what is told from a wall on; `one` says that a step tells its part of it, and leaves the rest to be told from its wall on
+module _ {K : Type 0} (step : Step K) (first : K) (from : Wall → K → (row rest : List ℕ) → List ℕ)
+    (stands : (x : Wall) (k : K) (ts part : List ℕ) → Stands x → Stands (step x k ts part .wall))
+    (one : (x : Wall) (k : K) (ts us bs : List ℕ) → Stands x →
+    ((brings step x k ts bs .wall ≡ Over → ⊥) → take (width-of x) us ≡ brings step x k ts bs .row) →
+    from x k (take (width-of x) ts) bs
+    ≡ brings step x k ts bs .text
+    ++ from (brings step x k ts bs .wall) (brings step x k ts bs .keeps) (take (width-of (brings step x k ts bs .wall)) us) (drop (due-of x) bs)) where
+  reached-stands : {ended : Bool} {x : Wall} {k : K} {times held delivered text : List ℕ} → Turns step first ended x k times held delivered text → Stands x
+  unfolding Stands
+  reached-stands begins = tt
+  reached-stands (reads piece r) = reached-stands r
+  reached-stands (ends r) = reached-stands r
+  reached-stands (steps {x = x} {k} after short row r) = stands x k _ _ (reached-stands r)
+
+  told : {ended : Bool} {x : Wall} {k : K} {times held delivered text : List ℕ} → Turns step first ended x k times held delivered text →
+      (rest : List ℕ) → (ended ≡ true → rest ≡ []) → from New first [] (delivered ++ rest) ≡ text ++ from x k (take (width-of x) times) (held ++ rest)
+  unfolding width-of
+  told begins rest none = refl
+  told (reads {x} {k} {times} {held} {delivered} {text} piece r) rest none =
+      ap (from New first []) (append-assoc delivered piece rest)
+      ∙ told r (piece ++ rest) (λ e. absurd (true≢false (sym e)))
+      ∙ ap (λ (l : List ℕ). text ++ from x k (take (width-of x) times) l) (sym (append-assoc held piece rest))
+  told (ends r) rest none = told r rest (λ e. absurd (true≢false (sym e)))
+  told (steps {x = x} {k} {times} {held} {delivered} {text} after short row r) rest none =
+      let part = held-part (due-of x) held rest (ltb (length held) (due-of x)) refl (λ l. none (short l)) in
+      let b = brings step x k times held in
+      let same : brings step x k times (held ++ rest) ≡ b = ap (step x k (take (width-of x) times)) (part .0) in
+      let on = one x k times after (held ++ rest) (reached-stands r) (rw same row) in
+      told r rest none
+      ∙ ap (λ (l : List ℕ). text ++ l) (rw (same, part .1) at on)
+      ∙ sym (append-assoc text (b .text) (from (b .wall) (b .keeps) (take (width-of (b .wall)) after) (drop (due-of x) held ++ rest)))
+
+  pub whole-right : ((k : K) (row rest : List ℕ) → from Over k row rest ≡ []) → Run-right step first (from New first [])
+  unfolding Run-right
+  whole-right over r k times output e =
+      let h = e .ran .handed in
+      let d = e .ran .delivered in
+      let s = r .state in (
+        λ done.
+            let at = e .done done in
+            let all = told (e .ran .turns) [] (λ _. refl) in
+            let clear : take (s .text) output ≡ [] = rw (at .1) refl in
+            sym (rw (clear, at .0, over, append-nil, append-nil, append-nil) at all),
+        λ rest none.
+            let all = told (e .ran .turns) rest none in
+            rw (all, append-assoc) (take-at h _ (length h) refl),
+      )
