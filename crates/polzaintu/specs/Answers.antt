@@ -12,6 +12,7 @@ use Rattle.row.specs.declared.Planned.{Planned}
 use Rattle.row.specs.declared.Planned.the-variants as planned
 use Rattle.seam.specs.declared.Seam.{Seam}
 use Rattle.seam.specs.declared.Seam.the-variants as seam
+use Rattle.reach.specs.Answers.{reached-number, reached-outside}
 use Rattle.reach.specs.declared.Gap.{Gap}
 use Rattle.reach.specs.declared.Gap.the-variants as gap
 use Rattle.reach.specs.declared.Reached.{Reached}
@@ -47,19 +48,13 @@ halves-left (seam.Open s) held = held
 halves-left (seam.Refused n) held = held
 
 -- B of a row
-unfoldable pub gap-number : Gap → ℕ
-gap-number (gap.Widest b) = 0
-gap-number (gap.Refused n) = n
-
 unfoldable pub gap-left : Gap → (held : ℕ) → ℕ
 gap-left (gap.Widest b) held = b
 gap-left (gap.Refused n) held = held
 
--- the ticks and columns that a broken tile reaches
+-- the ticks and columns that a broken tile reaches; what lies outside the wall is unfit
 unfoldable pub reach-number : Reached → ℕ
-reach-number (reached.Within r) = 0
-reach-number reached.Outside = unfit
-reach-number (reached.Refused n) = n
+reach-number a = cond (reached-outside a) unfit (reached-number a)
 
 unfoldable pub reach-left : Reached → (held : List ℕ) → List ℕ
 reach-left (reached.Within r) held = r .ticks ∷ r .first ∷ r .last ∷ []

@@ -20,10 +20,11 @@ ghost use Rattle.admission.specs.Call.{call};
 ghost use Rattle.row.specs.Row.{planned, written, number-of as Row·number-of};
 ghost use Rattle.seam.specs.Seam.{seam-of, number-of as Seam·number-of};
 ghost use Rattle.reach.specs.Search.{gap-of, reach-of};
+ghost use Rattle.reach.specs.Answers.{gap-number};
 ghost use Rattle.stages.specs.Fit.{due-of, width-of};
 ghost use Rattle.steps.specs.Take.{take-of, row-after};
 ghost use Rattle.layout.specs.Words.{settings-from, stamps-in, wall-in};
-ghost use Rattle.polzaintu.specs.Answers.{forwarded-left, ends-left, side-left, halves-left, gap-number, gap-left, reach-number, reach-left, step-number, wall-left, offset-left};
+ghost use Rattle.polzaintu.specs.Answers.{forwarded-left, ends-left, side-left, halves-left, gap-left, reach-number, reach-left, step-number, wall-left, offset-left};
 
 // The number of what does not fit and has no number of its own.
 const UNFIT: u32 = 4_294_967_295;

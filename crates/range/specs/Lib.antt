@@ -1,2 +1,5 @@
 pub mod File
+pub mod Read
 pub mod Promises
+pub mod Cases
+pub mod Witness

@@ -4,3 +4,5 @@ pub mod Span
 pub mod Search
 pub mod Gap
 pub mod Survey
+pub mod Range
+pub mod Answers

@@ -1,3 +1,6 @@
 pub mod Span
 pub mod Search
 pub mod Survey
+pub mod Answers
+pub mod Promises
+pub mod Cases

@@ -1,17 +1,14 @@
 -- How far one broken tile reaches: the widest gap of its row, and its reach in a later row in ticks and in columns.
 -- Assumes nothing.
-use mathlib.Core.Path.{_≡_}
 use mathlib.Core.Bool.{Bool, cond, not, _&&_, _||_}
 use mathlib.Core.List.{List}
-use Prim.Native.Nat.{ℕ, _+_, _-_, _≤_, _<_}
+use Prim.Native.Nat.{ℕ, _-_}
 use lib.Dec.{eqb, ltb}
-use lib.ListN.{length, getD}
+use lib.ListN.{length}
 use Rattle.settings.specs.Settings.{settings-refusal}
 use Rattle.rule.specs.Stamp.{latest-stamp}
 use Rattle.settings.specs.declared.Settings.{Settings}
-use Rattle.admission.specs.Call.{Call}
-use Rattle.runs.specs.Run.{taken, rows, row-at}
-use Rattle.runs.specs.Reach.{Alike, Two-runs, apart, widest-gap, reach-ticks}
+use Rattle.runs.specs.Reach.{widest-gap, reach-ticks}
 use Rattle.reach.specs.Span.{first-within, last-within}
 use Rattle.reach.specs.declared.Gap.{Gap}
 use Rattle.reach.specs.declared.Gap.the-variants as gap
@@ -39,14 +36,3 @@ unfoldable pub reach-in-row : Settings → (gap f later column : ℕ) → Reache
 reach-in-row s b f l k =
     cond (not (eqb (settings-refusal s) 0)) (reached.Refused (settings-refusal s))
     (cond (ltb f l && not (ltb (s .rows) l)) (reach-of s b (l - f) k) reached.Outside)
-
--- demand 3 in the words of the answer: with B of row f, the pulses of row f + n differ in the columns from the first to the last
--- alone, and by at most so many ticks
-unfoldable pub Search-range : Type 0
-Search-range =
-    (s : Settings) (ts : List ℕ) (xs ys : List Call) (f k n c : ℕ) → Two-runs Alike (s .width) f k (taken s xs ts) (taken s ys ts) →
-    0 < n → f + n ≤ length (rows s xs ts) → c < s .width →
-    let here = getD (row-at ts (rows s xs ts) (f + n)) c 0 in
-    let there = getD (row-at ts (rows s ys ts) (f + n)) c 0 in
-    (c < first-within (s .width) k n → here ≡ there) × (last-within (s .width) k n < c → here ≡ there)
-    × (apart here there ≤ reach-ticks s (widest-gap (s .width) (row-at ts (rows s xs ts) f)) n)

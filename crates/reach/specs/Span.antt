@@ -5,10 +5,13 @@ use Prim.Native.Nat.{ℕ, _+_, _-_, _≤_, _<_, min}
 use lib.Dec.{eqb, ltb}
 use Rattle.columns.specs.Columns.{Hops-within}
 
--- an end column has its next but one beside it, so it reaches as far as the column next to it; near the other end the last two
--- columns are reached together
+-- the columns below this have column 0 within n hops, since columns 0 and 2 are neighbours
+unfoldable pub end-within : (n : ℕ) → ℕ
+end-within n = n + 2
+
+-- the last column reaches as far as the one next to it, since it has columns W - 2 and W - 3 beside it
 unfoldable pub first-within : (w k n : ℕ) → ℕ
-first-within w k n = cond (eqb n 0) k (cond (ltb (min k (w - 2)) (n + 2)) 0 (min k (w - 2) - n))
+first-within w k n = cond (eqb n 0) k (cond (ltb (min k (w - 2)) (end-within n)) 0 (min k (w - 2) - n))
 
 unfoldable pub last-within : (w k n : ℕ) → ℕ
 last-within w k n = w - 1 - first-within w (w - 1 - k) n

@@ -2,13 +2,11 @@
 use mathlib.Core.Path.{_≡_}
 use mathlib.Core.List.{List, [], _∷_}
 use Prim.Native.Nat.{ℕ, suc, _-_, _≤_, _<_, max}
-use lib.ListN.{length, getD, take}
+use lib.ListN.{length, getD}
 use Rattle.settings.specs.Settings.{settings-refusal}
 use Rattle.rule.specs.Stamp.{latest-stamp}
 use Rattle.settings.specs.declared.Settings.{Settings}
-use Rattle.admission.specs.Call.{Call}
-use Rattle.runs.specs.Run.{taken, rows, row-at}
-use Rattle.runs.specs.Reach.{Alike, Two-runs, apart, widest-gap, reach-ticks}
+use Rattle.runs.specs.Reach.{widest-gap, reach-ticks}
 use Rattle.reach.specs.Search.{gap-of, reach-of}
 use Rattle.reach.specs.declared.Gap.{Gap}
 use Rattle.reach.specs.declared.Gap.the-variants as gap
@@ -45,12 +43,3 @@ Row-surveyed =
     (s : Settings) (l m : ℕ) (ts : List ℕ) → settings-refusal s ≡ 0 → l < s .rows → length ts ≡ s .width →
     ((c : ℕ) → c < s .width → getD ts c 0 ≤ latest-stamp) →
     surveyed-of s l m ts ≡ surveyed.Row (widest-gap (s .width) ts) (max m (last-reach s l ts))
-
--- the number that a search range is set to: of two runs as in demand 3, no pulse differs by more than the largest reach over rows
--- 0 to R - 1 of the run without faults
-unfoldable pub Largest-enough : Type 0
-Largest-enough =
-    (s : Settings) (ts : List ℕ) (xs ys : List Call) (f k l c : ℕ) → Two-runs Alike (s .width) f k (taken s xs ts) (taken s ys ts) →
-    length (rows s xs ts) ≡ s .rows → l ≤ s .rows → c < s .width →
-    apart (getD (row-at ts (rows s xs ts) l) c 0) (getD (row-at ts (rows s ys ts) l) c 0)
-    ≤ largest-of s 0 0 (take (s .rows) (ts ∷ rows s xs ts))

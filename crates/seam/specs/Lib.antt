@@ -1,2 +1,3 @@
 pub mod Seam
 pub mod Promises
+pub mod Cases

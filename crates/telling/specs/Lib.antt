@@ -1,2 +1,3 @@
 pub mod Telling
 pub mod Said
+pub mod Cases

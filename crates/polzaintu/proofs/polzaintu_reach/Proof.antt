@@ -2,6 +2,7 @@
 use mathlib.Core.Path.{_≡_, sym, _∙_, ap}
 use Rattle.settings.specs.declared.Settings.{Settings}
 use Rattle.reach.specs.Search.{reach-of}
+use Rattle.reach.specs.Answers.{reached-number, reached-outside}
 use Rattle.layout.specs.Words.{settings-from}
 use Rattle.polzaintu.specs.Answers.{reach-number, reach-left}
 use borrow.Author.Needs.{needs}
@@ -28,15 +29,15 @@ enum-known-number : tie.Need-enum-known-number
 enum-known-number c = search needs
 
 returns : tie.Need-returns
-unfolding reach-number reach-left
+unfolding reach-number reached-outside reached-number reach-left
 returns c = let e = sym (answer (c .before .before .before .before)) ∙ c .before .before .within .given .1 in (sym (rw e), sym (rw e))
 
 returns-2 : tie.Need-returns-2
-unfolding reach-number reach-left
+unfolding reach-number reached-outside reached-number reach-left
 returns-2 c = let e = sym (answer (c .before .before)) ∙ c .enum-told .given .1 in (sym (rw e), sym (rw e))
 
 returns-3 : tie.Need-returns-3
-unfolding reach-number reach-left
+unfolding reach-number reached-outside reached-number reach-left
 returns-3 c = let e = sym (answer (c .before .before .before)) ∙ c .before .number .given .1 in (sym (rw e), sym (rw e))
 
 pub polzaintu-reach-spec : {M : Type 1} → statement M

@@ -2,8 +2,9 @@
 use mathlib.Core.Path.{_≡_, sym, _∙_, ap}
 use Rattle.settings.specs.declared.Settings.{Settings}
 use Rattle.reach.specs.Search.{gap-of}
+use Rattle.reach.specs.Answers.{gap-number}
 use Rattle.layout.specs.Words.{settings-from}
-use Rattle.polzaintu.specs.Answers.{gap-number, gap-left}
+use Rattle.polzaintu.specs.Answers.{gap-left}
 use borrow.Author.Needs.{needs}
 use Rattle.polzaintu.proofs.polzaintu_widest_gap.Statement.{statement}
 use Rattle.polzaintu.proofs.polzaintu_widest_gap.Tie as tie

@@ -6,6 +6,7 @@ use Prim.Native.Nat.{ℕ, zero, suc, _+_, _-_, _≤_, _<_, max}
 use lib.ListN.{length, getD}
 use native.Mathlib.Omega.{arith}
 use Rattle.settings.proofs.Laws.Cases.{by-equal}
+use Rattle.rule.specs.Stamp.{latest-stamp}
 use Rattle.columns.specs.Columns.{are-neighbours, columns-from, neighbours}
 use Rattle.runs.specs.Reach.{apart, widest, gap-below, widest-gap}
 use Rattle.columns.proofs.Laws.Columns.{next, first-third, third-last}
@@ -38,6 +39,15 @@ module _ (ts : List ℕ) (most : ℕ) where
     pub not-wider : widest-gap w ts ≤ most
     unfolding widest-gap
     not-wider = below-not-wider w (omega arith)
+
+-- times up to 2^41 - 1 are at most so far apart
+apart-small : (a b m : ℕ) → a ≤ m → b ≤ m → apart a b ≤ m
+unfolding apart
+apart-small a b m i j = omega (arith, i, j)
+
+pub gap-small : (w : ℕ) (ts : List ℕ) → ((c : ℕ) → c < w → getD ts c 0 ≤ latest-stamp) → widest-gap w ts ≤ latest-stamp
+gap-small w ts early =
+    not-wider ts latest-stamp w (λ c j p q e. apart-small (getD ts c 0) (getD ts j 0) latest-stamp (early c p) (early j q))
 
 -- the ends, and each two columns in a row before c, are at most so far apart, and some neighbours are so far
 pub record Gapped (ts : List ℕ) (most c : ℕ) : Type 0 where

@@ -6,34 +6,35 @@ use borrow.Author.Tests.{eq-eqb, ne-eqb, lt-ltb, le-ltb}
 use Rattle.settings.proofs.Laws.Cases.{by-order, by-equal}
 use Rattle.columns.specs.Columns.{Way, stay, hop, Hops-within}
 use Rattle.columns.proofs.Laws.Columns.{next, first-third, third-last}
-use Rattle.reach.specs.Span.{first-within, last-within, Spanned}
+use Rattle.reach.specs.Span.{end-within, first-within, last-within, Spanned}
 use Rattle.reach.proofs.Laws.Neighbours.{by-neighbours, mirrored-within}
 
 -- what it means to lie at or after the first
 abbrev Low : (w k n c : ℕ) → Type 0
-Low w k n c = (n ≡ 0 → k ≤ c) × (0 < n → n + 2 ≤ min k (w - 2) → min k (w - 2) ≤ c + n)
+Low w k n c = (n ≡ 0 → k ≤ c) × (0 < n → end-within n ≤ min k (w - 2) → min k (w - 2) ≤ c + n)
 
 low-of : (w k n c : ℕ) → first-within w k n ≤ c → Low w k n c
 unfolding first-within
 low-of w k n c i =
     by-equal n 0
     (λ e. let f = rw (eq-eqb n 0 e) at i in (λ z. f, λ p q. omega arith))
-    (λ e. (λ z. absurd (e z), λ p q. let f = rw (ne-eqb n 0 e, le-ltb (min k (w - 2)) (n + 2) q) at i in omega arith))
+    (λ e. (λ z. absurd (e z), λ p q. let f = rw (ne-eqb n 0 e, le-ltb (min k (w - 2)) (end-within n) q) at i in omega arith))
 
 first-of : (w k n c : ℕ) → Low w k n c → first-within w k n ≤ c
 unfolding first-within
 first-of w k n c low =
     by-equal n 0
     (λ e. rw (eq-eqb n 0 e) (low .0 e))
-    (λ e. by-order (n + 2) (min k (w - 2))
-    (λ q. rw (ne-eqb n 0 e, le-ltb (min k (w - 2)) (n + 2) q) (let f = low .1 (omega arith) q in omega arith))
-    (λ q. rw (ne-eqb n 0 e, lt-ltb (min k (w - 2)) (n + 2) q) (omega arith)))
+    (λ e. by-order (end-within n) (min k (w - 2))
+    (λ q. rw (ne-eqb n 0 e, le-ltb (min k (w - 2)) (end-within n) q) (let f = low .1 (omega arith) q in omega arith))
+    (λ q. rw (ne-eqb n 0 e, lt-ltb (min k (w - 2)) (end-within n) q) (omega arith)))
 
 pub first-small : (w k n : ℕ) → first-within w k n ≤ k
 first-small w k n = first-of w k n k (λ e. omega arith, λ p q. omega arith)
 
 -- a way does not come before it
 low-way : (w k m c : ℕ) → Way w m k c → Low w k m c
+unfolding end-within
 low-way w k m c stay = (λ z. omega arith, λ p q. omega arith)
 low-way w k (suc m) c (hop {b = b} j e way) =
     let f = low-way w k m b way in (
@@ -43,6 +44,7 @@ low-way w k (suc m) c (hop {b = b} j e way) =
     )
 
 low-more : (w k m n c : ℕ) → m ≤ n → Low w k m c → Low w k n c
+unfolding end-within
 low-more w k m n c i f = (
   λ z. f .0 (omega arith),
   λ p q. by-equal m 0 (λ z. let h = f .0 z in omega arith) (λ z. let h = f .1 (omega arith) (omega arith) in omega arith),
@@ -67,9 +69,10 @@ module _ {w k h : ℕ} where
 
   -- all the columns from the first down to b
   from-there : (n b c : ℕ) → b < w → b + h ≡ min k (w - 2) → (b < 2 → h ≡ 0) → c ≤ b → 0 < n → Low w k n c → Way w h k b → Hops-within w n k c
+  unfolding end-within
   from-there n b c i e near j p low way =
       let straight : b - c + h ≤ n → Hops-within w n k c = λ few. record { hops = b - c + h; few = few; way = go-down (b - c) b c i (omega arith) way } in
-      by-order (n + 2) (min k (w - 2))
+      by-order (end-within n) (min k (w - 2))
       (λ q. straight (let f = low .1 p q in omega arith))
       (λ q. by-order 1 c
       (λ l. straight (omega arith))

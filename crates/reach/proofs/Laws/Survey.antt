@@ -11,17 +11,12 @@ use Rattle.rule.specs.Stamp.{latest-stamp}
 use Rattle.settings.specs.declared.Settings.{Settings}
 use Rattle.settings.proofs.Laws.Settings.{limits}
 use Rattle.runs.specs.Run.{row-at}
-use Rattle.runs.specs.Reach.{apart, widest-gap}
+use Rattle.runs.specs.Reach.{widest-gap}
 use Rattle.reach.specs.Search.{gap-of, reach-of, outside-wall}
 use Rattle.reach.specs.Survey.{with-reach, with-gap, surveyed-of, last-reach, largest-of}
 use Rattle.reach.specs.declared.survey.Surveyed.the-variants as surveyed
-use Rattle.reach.proofs.Laws.Gap.{not-wider}
+use Rattle.reach.proofs.Laws.Gap.{gap-small}
 use Rattle.reach.proofs.Laws.Search.{by-gap}
-
--- two times below 2^41 are at most so far apart
-apart-small : (a b m : ℕ) → a ≤ m → b ≤ m → apart a b ≤ m
-unfolding apart
-apart-small a b m i j = omega (arith, i, j)
 
 module _ (s : Settings) (ok : settings-refusal s ≡ 0) where
   pub row-surveyed : (l m : ℕ) (ts : List ℕ) → l < s .rows → length ts ≡ s .width → ((c : ℕ) → c < s .width → getD ts c 0 ≤ latest-stamp) →
@@ -30,7 +25,7 @@ module _ (s : Settings) (ok : settings-refusal s ≡ 0) where
   row-surveyed l m ts i long early =
       let w = s .width in
       let b = widest-gap w ts in
-      let small : b ≤ latest-stamp = not-wider ts latest-stamp w (λ c j p q e. apart-small (getD ts c 0) (getD ts j 0) latest-stamp (early c p) (early j q)) in
+      let small = gap-small w ts early in
       let wide = limits s ok .width in
       let inside : outside-wall s b (s .rows - l) 0 ≡ false =
       by-gap s b (s .rows - l) 0 (λ z. omega (arith, z, i)) (omega (arith, i)) (omega (arith, wide)) ∙ le-ltb latest-stamp b small in

@@ -1,6 +1,6 @@
 -- `first` meets its contract. Assumes nothing.
 use borrow.Author.Tests.{eq-eqb, ne-eqb, lt-ltb, le-ltb}
-use Rattle.reach.specs.Span.{first-within}
+use Rattle.reach.specs.Span.{end-within, first-within}
 use borrow.Author.Needs.{needs}
 use Rattle.reach.proofs.first.Statement.{statement}
 use Rattle.reach.proofs.first.Tie as tie
@@ -19,14 +19,14 @@ add-if2 : tie.Need-add-if2
 add-if2 c = search needs
 
 returns-2 : tie.Need-returns-2
-unfolding first-within
+unfolding first-within end-within
 returns-2 c = rw (ne-eqb _ _ (c .before .before .if1 .left), ← c .before .smaller .ensures, lt-ltb _ _ (c .if2 .taken))
 
 sub-result : tie.Need-sub-result
 sub-result c = search needs
 
 returns-3 : tie.Need-returns-3
-unfolding first-within
+unfolding first-within end-within
 returns-3 c = rw (ne-eqb _ _ (c .before .before .if1 .left), ← c .before .smaller .ensures, le-ltb _ _ (c .if2 .left))
 
 pub first-spec : {M : Type 1} → statement M

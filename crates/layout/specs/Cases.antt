@@ -1,0 +1,87 @@
+-- The words of each struct of bindings/c/polzaintu.h, at numbers, in the order of its fields. Each statement is proved in
+-- proofs/Cases.antt, under its name in small letters. Assumes nothing.
+use mathlib.Core.Path.{_≡_}
+use mathlib.Core.List.{List, [], _∷_}
+use Prim.Native.Nat.{ℕ}
+use Rattle.settings.specs.Settings.{settings-refusal}
+use Rattle.settings.specs.declared.Settings.{Settings}
+use Rattle.rule.specs.Stamp.{heard, silent}
+use Rattle.tile.specs.Tile.{own-stamp, neighbour-stamps}
+use Rattle.seam.specs.declared.Side.the-variants.{Left, Right, Both}
+use Rattle.stages.specs.Fit.{due-of, width-of}
+use Rattle.stages.specs.declared.Place.{Place}
+use Rattle.stages.specs.declared.Wall.the-variants.{New, Start, Row, End, Over}
+use Rattle.layout.specs.Words.{settings-from, stamps-in, side-word, wall-in, wall-words}
+
+-- W, R, d, u, A, r, h: each word out of its range, alone, has its number; 8 and 9 are of h and A
+unfoldable pub Refuses : (w rows d u a r h number : ℕ) → Type 0
+Refuses w rows d u a r h n = settings-refusal (settings-from 0 (w ∷ rows ∷ d ∷ u ∷ a ∷ r ∷ h ∷ [])) ≡ n
+
+unfoldable pub Settings-cases : Type 0
+Settings-cases =
+    Refuses 6 1 100 10 400 0 12 0
+    × Refuses 5 1 100 10 400 0 12 1
+    × Refuses 6 0 100 10 400 0 12 2
+    × Refuses 6 1 0 10 400 0 12 3
+    × Refuses 6 1 100 101 400 0 12 4
+    × Refuses 6 1 100 10 0 0 12 5
+    × Refuses 6 1 100 10 400 10001 12 6
+    × Refuses 6 1 100 10 400 0 0 7
+    × Refuses 6 1 100 10 400 0 11 8
+    × Refuses 6 1 100 10 191 0 12 9
+
+-- own, the neighbours, the count; 2^64 - 1 is silent, and no neighbour past the count is read
+unfoldable pub Stamps-cases : Type 0
+Stamps-cases =
+    (own-stamp (stamps-in (10 ∷ 21 ∷ 22 ∷ 23 ∷ 3 ∷ [])) ≡ heard 10)
+    × (neighbour-stamps (stamps-in (10 ∷ 21 ∷ 22 ∷ 23 ∷ 3 ∷ [])) ≡ heard 21 ∷ heard 22 ∷ heard 23 ∷ [])
+    × (neighbour-stamps (stamps-in (10 ∷ 21 ∷ 22 ∷ 23 ∷ 2 ∷ [])) ≡ heard 21 ∷ heard 22 ∷ [])
+    × (own-stamp (stamps-in (18446744073709551615 ∷ 21 ∷ 22 ∷ 23 ∷ 3 ∷ [])) ≡ silent)
+    × (neighbour-stamps (stamps-in (10 ∷ 21 ∷ 18446744073709551615 ∷ 23 ∷ 3 ∷ [])) ≡ heard 21 ∷ silent ∷ heard 23 ∷ [])
+    × (own-stamp (stamps-in (2199023255551 ∷ 21 ∷ 22 ∷ 23 ∷ 3 ∷ [])) ≡ heard 2199023255551)
+
+-- POLZAINTU_OPEN_LEFT, _RIGHT, _BOTH
+unfoldable pub Side-cases : Type 0
+Side-cases = (side-word Left ≡ 1) × (side-word Right ≡ 2) × (side-word Both ≡ 3)
+
+-- a wall: stage, settings, row, offset
+unfoldable pub wall-settings : Settings
+wall-settings = record { width = 11; rows = 12; delay = 13; uncertainty = 14; hold = 15; drift = 16; unit = 17 }
+
+unfoldable pub wall-place : Place
+wall-place = record { settings = wall-settings; row = 18; offset = 19 }
+
+unfoldable pub staged-words : (stage : ℕ) → List ℕ
+staged-words n = n ∷ 11 ∷ 12 ∷ 13 ∷ 14 ∷ 15 ∷ 16 ∷ 17 ∷ 18 ∷ 19 ∷ []
+
+-- POLZAINTU_SETTINGS_DUE, _START_DUE, _ROW_DUE, _END_DUE and POLZAINTU_OVER, as they are read and as they are written
+unfoldable pub Wall-read-cases : Type 0
+Wall-read-cases =
+    (wall-in (staged-words 0) ≡ New)
+    × (wall-in (staged-words 1) ≡ Start wall-place)
+    × (wall-in (staged-words 2) ≡ Row wall-place)
+    × (wall-in (staged-words 3) ≡ End wall-place)
+    × (wall-in (staged-words 4) ≡ Over)
+
+unfoldable pub Wall-written-cases : Type 0
+Wall-written-cases =
+    (wall-words New wall-place ≡ staged-words 0)
+    × (wall-words (Start wall-place) wall-place ≡ staged-words 1)
+    × (wall-words (Row wall-place) wall-place ≡ staged-words 2)
+    × (wall-words (End wall-place) wall-place ≡ staged-words 3)
+    × (wall-words Over wall-place ≡ staged-words 4)
+
+-- what is due of a wall by its words, and W: the settings, row 0, the next row (POLZAINTU_DUE_MOST of the widest), one byte to see the end
+unfoldable pub widest-words : (stage : ℕ) → List ℕ
+widest-words n = n ∷ 256 ∷ 1024 ∷ 100 ∷ 10 ∷ 400 ∷ 0 ∷ 12 ∷ 1 ∷ 2078 ∷ []
+
+unfoldable pub Due-cases : Type 0
+Due-cases =
+    (due-of (wall-in (widest-words 0)) ≡ 27)
+    × (due-of (wall-in (widest-words 1)) ≡ 2051)
+    × (due-of (wall-in (widest-words 2)) ≡ 6710)
+    × (due-of (wall-in (widest-words 3)) ≡ 1)
+    × (due-of (wall-in (widest-words 4)) ≡ 0)
+    × (width-of (wall-in (widest-words 0)) ≡ 0)
+    × (width-of (wall-in (widest-words 1)) ≡ 256)
+    × (width-of (wall-in (widest-words 4)) ≡ 0)

@@ -1,0 +1,59 @@
+-- The cases of specs/Cases.antt, computed. Assumes nothing.
+use mathlib.Core.Path.{refl}
+use lib.Ieee.{toBits, round}
+use Rattle.settings.specs.Refusal.{first, outside, any-below}
+use Rattle.settings.specs.Rounding.{up}
+use Rattle.settings.specs.Settings.{settings, step, step-of, drift-cost, settings-tests, settings-refusal}
+use Rattle.rule.specs.Signed.{larger, smaller, natural}
+use Rattle.rule.specs.Clock.{reads, first-tick}
+use Rattle.rule.specs.Stamp.{earlier, later, earliest, latest, stamp-of}
+use Rattle.rule.specs.Forward.{larger-at, least-to, D, heard-correction, P, correction}
+use Rattle.rule.specs.Pulse.{tile-P, tile-pulse}
+use Rattle.tile.specs.Tile.{silent-at, reading-at, stamp-from, stamp-at, neighbour-places, own-stamp, neighbour-stamps, late-from, late-at, count-silent, silences, stamp-tests, tile-tests, tile-refusal, answer, answered, forwarded, number-of as tile-number}
+use Rattle.seam.specs.Seam.{half, halves, late, joined, seam-of, number-of as seam-number}
+use Rattle.columns.specs.Columns.{are-neighbours, columns-from, neighbours, is-predecessor, predecessors, links-before, place-in as place-of, link-place, link, table-from, any-of}
+use Rattle.columns.specs.Marks.{marked, mark-bytes, faulty-among}
+use Rattle.links.specs.Links.{bad-value, bad-link, bad-links}
+use Rattle.admission.specs.Call.{call}
+use Rattle.admission.specs.Refusal.{lengths-are, lengths-right, stray-mark, late-time, crowded, fast, row-tests, row-refusal}
+use Rattle.pulse.specs.Pulse.{arrives, arrival, read-at, stamp, pulse}
+use Rattle.row.specs.Row.{row-of, least-of, most-of, planned, written, number-of as row-number}
+use Rattle.runs.specs.Reach.{apart, widest, gap-below, widest-gap, reach-ticks}
+use Rattle.reach.specs.Span.{end-within, first-within, last-within}
+use Rattle.reach.specs.Search.{gap-of, outside-wall, reach-of}
+use Rattle.reach.specs.Answers.{gap-number, reached-number, reached-outside}
+use Rattle.fields.specs.Bytes.{big-endian}
+use Rattle.fields.specs.Field.{field-tests, field-refusal, body, or-else}
+use Rattle.contents.specs.Contents.{settings-in, times-in, late-start}
+use Rattle.stages.specs.Fit.{place, passes, place-fits, wall-fits}
+use Rattle.steps.specs.Number.{settings-number, start-number}
+use Rattle.steps.specs.Shown.{row-shown, number-shown, offset-shown}
+use Rattle.steps.specs.Step.{stepped, away, settings-step, start-step, end-step, step-of as wall-step}
+use Rattle.steps.specs.Take.{took, took-of, takes, take-of}
+use Rattle.layout.specs.Words.{settings-from, at-most, stamp-in, stamps-in, side-word, place-in, staged, wall-in, place-words, wall-words}
+use Rattle.polzaintu.specs.Answers.{forwarded-left, ends-left, side-left, halves-left, gap-left, reach-number, reach-left, step-number, wall-left, offset-left}
+use Rattle.polzaintu.specs.Cases.{wall-settings, Tile, Tile-cases, row-0, Planned, Row-cases, held-halves, Seam, Seam-cases, Widest, Widest-cases, Range, Range-cases, Step, settings-field, wall-at, Step-cases}
+
+pub tile-cases : Tile-cases
+unfolding Tile-cases Tile wall-settings settings-from settings settings-refusal settings-tests first outside drift-cost up stamps-in stamp-in at-most tile-number forwarded-left forwarded tile-refusal tile-tests stamp-tests any-below late-at late-from silences count-silent answered answer own-stamp neighbour-stamps neighbour-places stamp-at stamp-from silent-at reading-at natural P correction heard-correction D least-to larger-at larger smaller earliest latest earlier later step-of step
+tile-cases = ((refl, refl), (refl, refl), (refl, refl), (refl, refl), (refl, refl), (refl, refl), (refl, refl))
+
+pub row-cases : Row-cases
+unfolding Row-cases Planned row-0 wall-settings settings-from settings settings-refusal settings-tests first outside drift-cost up call planned written row-number ends-left least-of most-of row-refusal row-tests any-below any-of mark-bytes lengths-are lengths-right stray-mark late-time faulty-among crowded fast bad-value bad-link bad-links marked link link-place links-before place-of predecessors is-predecessor are-neighbours columns-from neighbours row-of table-from pulse tile-pulse tile-P P heard-correction D least-to larger-at larger smaller natural stamp arrival arrives read-at reads first-tick stamp-of earliest latest earlier later step-of step
+row-cases = ((refl, refl, refl), (refl, refl, refl))
+
+pub seam-cases : Seam-cases
+unfolding Seam-cases Seam held-halves seam-number side-left halves-left side-word seam-of late joined halves half toBits round
+seam-cases = ((refl, refl, refl), (refl, refl, refl), (refl, refl, refl), (refl, refl, refl), (refl, refl, refl))
+
+pub widest-cases : Widest-cases
+unfolding Widest-cases Widest wall-settings settings-from settings settings-refusal settings-tests first outside drift-cost up gap-number gap-left gap-of widest-gap gap-below widest apart neighbours columns-from are-neighbours
+widest-cases = ((refl, refl), (refl, refl))
+
+pub range-cases : Range-cases
+unfolding Range-cases Range wall-settings settings-from settings settings-refusal settings-tests first outside drift-cost up reach-number reached-number reached-outside reach-left reach-of outside-wall reach-ticks end-within first-within last-within
+range-cases = ((refl, refl), (refl, refl), (refl, refl))
+
+pub step-cases : Step-cases
+unfolding Step-cases Step settings-field wall-at wall-in staged place-in place-words wall-words settings-from settings place step-number wall-left offset-left take-of takes took-of took wall-fits place-fits passes settings-refusal settings-tests first outside drift-cost up wall-step settings-step start-step end-step stepped away settings-number start-number field-refusal field-tests or-else body big-endian settings-in times-in late-start table-from any-below row-shown number-shown offset-shown
+step-cases = ((refl, refl, refl), (refl, refl, refl), (refl, refl, refl), (refl, refl, refl), (refl, refl, refl), (refl, refl, refl), (refl, refl, refl))

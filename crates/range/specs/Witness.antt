@@ -1,0 +1,16 @@
+-- Two files that meet the hypotheses of `File-range` and do differ: the printed wall, and the same with its tile of column 3 broken.
+-- Assumes nothing.
+use mathlib.Core.Path.{_≡_}
+use mathlib.Core.List.{[], _∷_}
+use Rattle.file.specs.Cases.{printed-file}
+use Rattle.range.specs.File.{search-text}
+use Rattle.range.specs.Read.{last-number}
+use Rattle.range.specs.Promises.{Two-files, pulse-of}
+use Rattle.range.specs.Cases.{broken-file}
+
+-- the pulse of the broken tile's column in row 1 in both, and the range, which covers the difference
+pub record Files-witnessed : Type 0 where
+  pub files : Two-files printed-file broken-file 0 3
+  pub here : pulse-of printed-file 1 3 ≡ 1536
+  pub there : pulse-of broken-file 1 3 ≡ 1464
+  pub range : last-number (search-text (1 ∷ []) printed-file) ≡ 256

@@ -1,0 +1,40 @@
+-- What steps tell, at numbers, as it is printed. Each statement is proved in proofs/Cases.antt, under its name in small letters.
+-- Assumes nothing.
+use mathlib.Core.Path.{_≡_}
+use mathlib.Core.List.{List, [], _∷_}
+use Prim.Native.Nat.{ℕ}
+use Rattle.settings.specs.Settings.{settings}
+use Rattle.stages.specs.Fit.{place}
+use Rattle.stages.specs.declared.Place.{Place}
+use Rattle.stages.specs.declared.Wall.the-variants.{New, End, Over}
+use Rattle.file.specs.Cases.{printed}
+use Rattle.telling.specs.Telling.{first-marked, says, row-says, telling}
+
+-- "one bit a column, column 0 lowest in the first byte": no mark, that of column 3, of columns 3 and 1, of column 9
+unfoldable pub Marked-cases : Type 0
+Marked-cases =
+    (first-marked 10 (0 ∷ 0 ∷ []) ≡ 10)
+    × (first-marked 10 (8 ∷ 0 ∷ []) ≡ 3)
+    × (first-marked 10 (10 ∷ 0 ∷ []) ≡ 1)
+    × (first-marked 10 (0 ∷ 2 ∷ []) ≡ 9)
+
+-- the wall of "A wall printed whole" at a row, so many bytes taken, and its row 0
+unfoldable pub at-row : (row offset : ℕ) → Place
+at-row l at = place (settings 6 1 100 10 400 0 12) l at
+
+unfoldable pub row-0 : List ℕ
+row-0 = 1000 ∷ 1000 ∷ 1000 ∷ 1080 ∷ 1000 ∷ 1000 ∷ []
+
+-- a row without faults, where row 1 is asked for, with the largest so far; a faulty tile ends the search
+unfoldable pub Row-cases : Type 0
+Row-cases =
+    (row-says (1 ∷ []) (at-row 0 78) (End (at-row 1 257)) 0 (0 ∷ []) row-0 ≡ says (End (at-row 1 257)) 256 (printed ("b 0 80" ∷ "r 0 1 256 1" ∷ [])))
+    × (row-says [] (at-row 0 78) (End (at-row 1 257)) 300 (0 ∷ []) row-0 ≡ says (End (at-row 1 257)) 300 (printed ("b 0 80" ∷ [])))
+    × (row-says (1 ∷ []) (at-row 0 78) (End (at-row 1 257)) 0 (40 ∷ []) row-0 ≡ says Over 0 (printed ("faulty 0 3" ∷ [])))
+
+-- the end of the file, with the largest; a byte after it; a file that ends before its settings
+unfoldable pub End-cases : Type 0
+End-cases =
+    (telling [] (End (at-row 1 257)) 256 row-0 [] ≡ says Over 256 (printed ("largest 256" ∷ [])))
+    × (telling [] (End (at-row 1 257)) 256 row-0 (0 ∷ []) ≡ says Over 256 (printed ("refused 44 at 257" ∷ [])))
+    × (telling [] New 0 [] [] ≡ says Over 0 (printed ("refused 43 at 0" ∷ [])))
