@@ -1,6 +1,6 @@
 -- The contracts of the operations are what calls of them go by: `Post`, which the check makes of their clauses, is `Stepping` for `step`
 -- and `step_by`, and `Taking` for `take` and `take_in`. Assumes nothing.
-use Rattle.steps.specs.Take.{Taking}
+use Rattle.steps.specs.Take.{Takes}
 use Rattle.steps.proofs.take.Reads as take
 use Rattle.steps.proofs.«take_in».Reads as take-in
 use Rattle.wall.specs.Operation.{Stepping}
@@ -18,9 +18,9 @@ pub step-by-ensured : (κs : _) (a : _) (r : _) (z : _) → step-by.Post κs a r
 step-by-ensured κs a r z p = p
 
 pub take-ensured : (κs : _) (a : _) (r : _) (z : _) → take.Post κs a r z →
-    Taking (a .0) (a .1 .0 .now) (a .1 .1 .0 .now) (a .1 .1 .1 .0 .now) r (z .1 .1 .1 .0 .now)
+    Takes (a .0) (a .1 .0 .now) (a .1 .1 .0 .now) (a .1 .1 .1 .0 .now) r (z .1 .1 .1 .0 .now)
 take-ensured κs a r z p = p
 
 pub take-in-ensured : (κs : _) (a : _) (r : _) (z : _) → take-in.Post κs a r z →
-    Taking (a .0) (a .1 .0 .now) (a .1 .1 .0 .now) (a .1 .1 .1 .1 .0 .now) r (z .1 .1 .1 .1 .0 .now)
+    Takes (a .0) (a .1 .0 .now) (a .1 .1 .0 .now) (a .1 .1 .1 .1 .0 .now) r (z .1 .1 .1 .1 .0 .now)
 take-in-ensured κs a r z p = p

@@ -7,5 +7,5 @@ pub mod Numbers
 pub mod Seams
 pub mod Calls
 pub mod Takes
-pub mod Reached
+pub mod Left
 pub mod Stands

@@ -27,7 +27,7 @@ use Rattle.steps.specs.Shown.{turned-away, no-marks, number-shown}
 use Rattle.steps.specs.Number.{settings-number, start-number}
 use Rattle.file.specs.File.{rows-shown, start-shown, shown}
 use Rattle.file.specs.Limits.{settings-of, after-settings, start-of, after-start, calls-in, calls-of, rows-of, Keeps, run-shown}
-use Rattle.file.specs.Program.{Calls-right, Reached-fits}
+use Rattle.file.specs.Program.{Calls-right, Left-fits}
 use Rattle.file.specs.Promises.{Steps-right, Accepted-whole, Others-refused, File-plain, Numbers-met, Seams-answered, File-is-run, File-one-fault}
 use Rattle.file.specs.Stands.{Steps-fewer}
 use Rattle.file.specs.Takes.{Take-calls-right}
@@ -35,8 +35,8 @@ use Rattle.file.proofs.Laws.Calls.{calls-right as calls-law}
 use Rattle.contents.proofs.Laws.Contents.{times-length}
 use Rattle.fields.proofs.Laws.Field.{else-none, else-other}
 use Rattle.file.proofs.Laws.Numbers.{rows-met, settings-number-met, start-number-met}
-use Rattle.file.proofs.Laws.Reached.{reached-fits as reached-law}
-use Rattle.file.proofs.Laws.Rows.{Grown, rows-accepted, all-taken, number-after, number-alone, rows-kept}
+use Rattle.file.proofs.Laws.Left.{left-fits as reached-law}
+use Rattle.file.proofs.Laws.Rows.{Grown, rows-accepted, all-accepted, number-after, number-alone, rows-kept}
 use Rattle.file.proofs.Laws.Seams.{rows-hold, away-holds}
 use Rattle.file.proofs.Laws.Stands.{step-ahead}
 use Rattle.file.proofs.Laws.Steps.{steps-right as steps-law}
@@ -55,9 +55,9 @@ pub take-calls-right : Take-calls-right
 unfolding Take-calls-right
 take-calls-right row file shows calls = take-calls-law row file shows calls
 
-pub reached-fits : Reached-fits
-unfolding Reached-fits
-reached-fits x row r long = reached-law x row r long
+pub left-fits : Left-fits
+unfolding Left-fits
+left-fits x row r long = reached-law x row r long
 
 pub steps-fewer : Steps-fewer
 unfolding Steps-fewer
@@ -215,7 +215,7 @@ pub file-is-run : File-is-run
 unfolding File-is-run calls-of rows-of
 file-is-run file k =
     let s = settings-of file in
-    let whole = all-taken s (s .rows) 0 (start-of file) (after-start file) (k .rows-keep) (first-row file k) (few-rows file k) in
+    let whole = all-accepted s (s .rows) 0 (start-of file) (after-start file) (k .rows-keep) (first-row file k) (few-rows file k) in
     (whole, run-of s (calls-of file) (start-of file) .as-many ∙ ap length whole ∙ calls-length (s .width) (s .rows) (after-start file))
 
 pub file-one-fault : File-one-fault

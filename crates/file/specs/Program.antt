@@ -19,7 +19,7 @@ use Rattle.wall.specs.declared.Answer.{Answer}
 pub data Calls : (wall : Wall) → (row rest text : List ℕ) → Type 0 where
   over : {row rest : List ℕ} → Calls Over row rest []
   lent : {p : Place} {row rest text : List ℕ} (held : List ℕ) → Calls (Start p) row rest text → Calls (Start p) held rest text
-  took : {x : Wall} {row rest text : List ℕ} (held : List ℕ) (at : ℕ) (answer : Answer) (next : Wall) (end : ℕ) (row-after out : List ℕ) →
+  taken : {x : Wall} {row rest text : List ℕ} (held : List ℕ) (at : ℕ) (answer : Answer) (next : Wall) (end : ℕ) (row-after out : List ℕ) →
       Stepping x (take (due-of x) rest) row held at answer row-after out → wall-of answer ≡ some next → end-of answer ≡ some end →
       Calls next row-after (drop (due-of x) rest) text → Calls x row rest (drop at (take end out) ++ text)
 
@@ -28,13 +28,13 @@ unfoldable pub Calls-right : Type 0
 Calls-right = (row file text : List ℕ) → Calls New row file text → text ≡ wall-text file
 
 -- a wall and its row that steps reach, whatever the parts hold; for row 0 any row may be lent
-pub data Reached : (wall : Wall) → (row : List ℕ) → Type 0 where
-  new : (row : List ℕ) → Reached New row
-  lend : {p : Place} {row : List ℕ} (held : List ℕ) → Reached (Start p) row → Reached (Start p) held
-  next : {x : Wall} {row : List ℕ} (part : List ℕ) → wall-fits x (length row) ≡ true → Reached x row →
-      Reached (step-of x row part .next) (step-of x row part .row)
+pub data Left : (wall : Wall) → (row : List ℕ) → Type 0 where
+  new : (row : List ℕ) → Left New row
+  lend : {p : Place} {row : List ℕ} (held : List ℕ) → Left (Start p) row → Left (Start p) held
+  next : {x : Wall} {row : List ℕ} (part : List ℕ) → wall-fits x (length row) ≡ true → Left x row →
+      Left (step-of x row part .next) (step-of x row part .row)
 
 -- so a run never comes to a wall that fits no call: with room, and for row 0 a row of W, the next step is taken
-unfoldable pub Reached-fits : Type 0
-Reached-fits =
-    (x : Wall) (row : List ℕ) → Reached x row → ((p : Place) → x ≡ Start p → length row ≡ p .settings .width) → wall-fits x (length row) ≡ true
+unfoldable pub Left-fits : Type 0
+Left-fits =
+    (x : Wall) (row : List ℕ) → Left x row → ((p : Place) → x ≡ Start p → length row ≡ p .settings .width) → wall-fits x (length row) ≡ true

@@ -10,7 +10,7 @@ use lib.Dec.{leb, eqb}
 use lib.ListN.{length, getD}
 use Rattle.columns.specs.Columns.{are-neighbours, any-of}
 use Rattle.columns.specs.Marks.{marked}
-use Rattle.runs.specs.Run.{taken}
+use Rattle.runs.specs.Run.{accepted-calls}
 use Rattle.runs.specs.Reach.{Alike, Two-runs, Reach}
 use Rattle.seam.specs.Seam.{seam-of, number-of, side-of}
 use Rattle.seam.specs.declared.Side.the-variants.{Both}
@@ -65,7 +65,7 @@ Seams-answered = (file : List ℕ) → Every Seams-hold (shown file)
 unfoldable pub File-is-run : Type 0
 File-is-run =
     (file : List ℕ) → Keeps file →
-    (taken (settings-of file) (calls-of file) (start-of file) ≡ calls-of file) × (length (rows-of file) ≡ settings-of file .rows)
+    (accepted-calls (settings-of file) (calls-of file) (start-of file) ≡ calls-of file) × (length (rows-of file) ≡ settings-of file .rows)
 
 -- so demand 3 holds of files
 unfoldable pub File-one-fault : Type 0

@@ -12,14 +12,14 @@ use Rattle.stages.specs.declared.Wall.{Wall}
 use Rattle.stages.specs.declared.Wall.the-variants.{New, Start, Row, End, Over}
 use Rattle.steps.specs.Answer.{wall-of, shown-then}
 use Rattle.steps.specs.Shown.{Shown, turned-away}
-use Rattle.steps.specs.Take.{Taking}
-use Rattle.steps.specs.declared.Taken.{Taken}
-use Rattle.steps.specs.declared.Taken.the-variants as answer
+use Rattle.steps.specs.Take.{Takes}
+use Rattle.steps.specs.declared.Answer.{Answer}
+use Rattle.steps.specs.declared.Answer.the-variants as answer
 use Rattle.file.specs.File.{shown}
 
 -- what a call shows by its answer: the refusal, or the row that was lent where the part lets it be shown
-unfoldable pub call-shows : (due : Wall) → (row part : List ℕ) → Taken → List Shown
-call-shows x ts bs (answer.Took t) = cond (eqb (t .number) 0) (shown-then x ts bs) (turned-away (t .number) (t .offset) ∷ [])
+unfoldable pub call-shows : (due : Wall) → (row part : List ℕ) → Answer → List Shown
+call-shows x ts bs (answer.Taken t) = cond (eqb (t .number) 0) (shown-then x ts bs) (turned-away (t .number) (t .offset) ∷ [])
 call-shows x ts bs answer.Unfit = []
 
 -- the row that the next call is lent: what this one wrote, row 0 or the next row, where it writes one
@@ -35,8 +35,8 @@ lent-next Over ts next = ts
 pub data Take-calls : (wall : Wall) → (row rest : List ℕ) → (shows : List Shown) → Type 0 where
   over : {row rest : List ℕ} → Take-calls Over row rest []
   lent : {p : Place} {row rest : List ℕ} {shows : List Shown} (held : List ℕ) → Take-calls (Start p) row rest shows → Take-calls (Start p) held rest shows
-  took : {x : Wall} {row rest : List ℕ} {shows : List Shown} (held : List ℕ) (a : Taken) (next-wall : Wall) (next : List ℕ) →
-      Taking x (take (due-of x) rest) row held a next → wall-of a ≡ some next-wall →
+  taken : {x : Wall} {row rest : List ℕ} {shows : List Shown} (held : List ℕ) (a : Answer) (next-wall : Wall) (next : List ℕ) →
+      Takes x (take (due-of x) rest) row held a next → wall-of a ≡ some next-wall →
       Take-calls next-wall (lent-next x row next) (drop (due-of x) rest) shows → Take-calls x row rest (call-shows x row (take (due-of x) rest) a ++ shows)
 
 -- what the calls write and answer over a whole file are the rows and the refusal that the definition says are shown of it

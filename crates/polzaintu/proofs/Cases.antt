@@ -29,7 +29,7 @@ use Rattle.stages.specs.Fit.{place, passes, place-fits, wall-fits}
 use Rattle.steps.specs.Number.{settings-number, start-number}
 use Rattle.steps.specs.Shown.{row-shown, number-shown, offset-shown}
 use Rattle.steps.specs.Step.{stepped, away, settings-step, start-step, end-step, step-of as wall-step}
-use Rattle.steps.specs.Take.{took, took-of, takes, take-of}
+use Rattle.steps.specs.Take.{taken, taken-of, both-fit, answer-of}
 use Rattle.layout.specs.Words.{settings-from, at-most, stamp-in, stamps-in, side-word, place-in, staged, wall-in, place-words, wall-words}
 use Rattle.polzaintu.specs.Answers.{forwarded-left, ends-left, side-left, halves-left, gap-left, reach-number, reach-left, step-number, wall-left, offset-left}
 use Rattle.polzaintu.specs.Cases.{wall-settings, Tile, Tile-cases, row-0, Planned, Row-cases, held-halves, Seam, Seam-cases, Widest, Widest-cases, Range, Range-cases, Step, settings-field, wall-at, Step-cases}
@@ -55,5 +55,5 @@ unfolding Range-cases Range wall-settings settings-from settings settings-refusa
 range-cases = ((refl, refl), (refl, refl), (refl, refl))
 
 pub step-cases : Step-cases
-unfolding Step-cases Step settings-field wall-at wall-in staged place-in place-words wall-words settings-from settings place step-number wall-left offset-left take-of takes took-of took wall-fits place-fits passes settings-refusal settings-tests first outside drift-cost up wall-step settings-step start-step end-step stepped away settings-number start-number field-refusal field-tests or-else body big-endian settings-in times-in late-start table-from any-below row-shown number-shown offset-shown
+unfolding Step-cases Step settings-field wall-at wall-in staged place-in place-words wall-words settings-from settings place step-number wall-left offset-left answer-of both-fit taken-of taken wall-fits place-fits passes settings-refusal settings-tests first outside drift-cost up wall-step settings-step start-step end-step stepped away settings-number start-number field-refusal field-tests or-else body big-endian settings-in times-in late-start table-from any-below row-shown number-shown offset-shown
 step-cases = ((refl, refl, refl), (refl, refl, refl), (refl, refl, refl), (refl, refl, refl), (refl, refl, refl), (refl, refl, refl), (refl, refl, refl))

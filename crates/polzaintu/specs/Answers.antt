@@ -17,8 +17,8 @@ use Rattle.reach.specs.declared.Gap.{Gap}
 use Rattle.reach.specs.declared.Gap.the-variants as gap
 use Rattle.reach.specs.declared.Reached.{Reached}
 use Rattle.reach.specs.declared.Reached.the-variants as reached
-use Rattle.steps.specs.declared.Taken.{Taken}
-use Rattle.steps.specs.declared.Taken.the-variants as take
+use Rattle.steps.specs.declared.Answer.{Answer}
+use Rattle.steps.specs.declared.Answer.the-variants as take
 use Rattle.layout.specs.Words.{side-word, place-in, wall-words}
 
 -- the number of what is unfit and has no number in 01
@@ -62,14 +62,14 @@ reach-left reached.Outside held = held
 reach-left (reached.Refused n) held = held
 
 -- a step of a wall file: its number, the wall, which keeps its place where it is over, and the offset of a refusal
-unfoldable pub step-number : Taken → ℕ
-step-number (take.Took t) = t .number
+unfoldable pub step-number : Answer → ℕ
+step-number (take.Taken t) = t .number
 step-number take.Unfit = unfit
 
-unfoldable pub wall-left : Taken → (held : List ℕ) → List ℕ
-wall-left (take.Took t) held = wall-words (t .wall) (place-in held)
+unfoldable pub wall-left : Answer → (held : List ℕ) → List ℕ
+wall-left (take.Taken t) held = wall-words (t .wall) (place-in held)
 wall-left take.Unfit held = held
 
-unfoldable pub offset-left : Taken → (held : ℕ) → ℕ
-offset-left (take.Took t) held = cond (eqb (t .number) 0) held (t .offset)
+unfoldable pub offset-left : Answer → (held : ℕ) → ℕ
+offset-left (take.Taken t) held = cond (eqb (t .number) 0) held (t .offset)
 offset-left take.Unfit held = held

@@ -14,7 +14,7 @@ use Rattle.row.specs.Row.{planned, written, number-of as row-number}
 use Rattle.seam.specs.Seam.{seam-of, number-of as seam-number}
 use Rattle.reach.specs.Search.{gap-of, reach-of}
 use Rattle.reach.specs.Answers.{gap-number}
-use Rattle.steps.specs.Take.{take-of}
+use Rattle.steps.specs.Take.{answer-of}
 use Rattle.layout.specs.Words.{settings-from, stamps-in, wall-in}
 use Rattle.polzaintu.specs.Answers.{forwarded-left, ends-left, side-left, halves-left, gap-left, reach-number, reach-left, step-number, wall-left, offset-left}
 
@@ -96,9 +96,9 @@ Range-cases =
 -- polzaintu_wall_step: the number, the wall and the offset
 unfoldable pub Step : (wall part row : List ℕ) → (next number : ℕ) → (wall-after : List ℕ) → (offset : ℕ) → Type 0
 Step ws part row next n after at =
-    (step-number (take-of (wall-in ws) part row next) ≡ n)
-    × (wall-left (take-of (wall-in ws) part row next) ws ≡ after)
-    × (offset-left (take-of (wall-in ws) part row next) 7 ≡ at)
+    (step-number (answer-of (wall-in ws) part row next) ≡ n)
+    × (wall-left (answer-of (wall-in ws) part row next) ws ≡ after)
+    × (offset-left (answer-of (wall-in ws) part row next) 7 ≡ at)
 
 -- the settings of the printed wall, as tag 1 has them, and the wall's words at a stage
 unfoldable pub settings-field : List ℕ

@@ -10,7 +10,7 @@ use reach::Gap;
 use reach::Reached;
 use row::Planned;
 use seam::Seam;
-use steps::Taken;
+use steps::Answer;
 use tile::Forwarded;
 ghost use mathlib.Core.Path.{_≡_};
 ghost use lib.ListN.{length, replicate};
@@ -22,7 +22,7 @@ ghost use Rattle.seam.specs.Seam.{seam-of, number-of as Seam·number-of};
 ghost use Rattle.reach.specs.Search.{gap-of, reach-of};
 ghost use Rattle.reach.specs.Answers.{gap-number};
 ghost use Rattle.stages.specs.Fit.{due-of, width-of};
-ghost use Rattle.steps.specs.Take.{take-of, row-after};
+ghost use Rattle.steps.specs.Take.{answer-of, row-after};
 ghost use Rattle.layout.specs.Words.{settings-from, stamps-in, wall-in};
 ghost use Rattle.polzaintu.specs.Answers.{forwarded-left, ends-left, side-left, halves-left, gap-left, reach-number, reach-left, step-number, wall-left, offset-left};
 
@@ -175,22 +175,22 @@ pub extern "C" fn polzaintu_wall_step(
     next: &mut [u64],
     offset: &mut u64,
 ) -> u32
-    ensures number { λ r. ⌜ r ≡ step-number (take-of (wall-in (now (wall .entry))) (now (part .entry)) (now (row .entry)) (length (now (next .entry)))) ⌝ }
-    ensures wall { λ r. ⌜ now (wall .exit) ≡ wall-left (take-of (wall-in (now (wall .entry))) (now (part .entry)) (now (row .entry)) (length (now (next .entry)))) (now (wall .entry)) ⌝ }
+    ensures number { λ r. ⌜ r ≡ step-number (answer-of (wall-in (now (wall .entry))) (now (part .entry)) (now (row .entry)) (length (now (next .entry)))) ⌝ }
+    ensures wall { λ r. ⌜ now (wall .exit) ≡ wall-left (answer-of (wall-in (now (wall .entry))) (now (part .entry)) (now (row .entry)) (length (now (next .entry)))) (now (wall .entry)) ⌝ }
     ensures next { λ r. ⌜ now (next .exit) ≡ row-after (wall-in (now (wall .entry))) (now (part .entry)) (now (row .entry)) (now (next .entry)) ⌝ }
-    ensures offset { λ r. ⌜ now (offset .exit) ≡ offset-left (take-of (wall-in (now (wall .entry))) (now (part .entry)) (now (row .entry)) (length (now (next .entry)))) (now (offset .entry)) ⌝ }
+    ensures offset { λ r. ⌜ now (offset .exit) ≡ offset-left (answer-of (wall-in (now (wall .entry))) (now (part .entry)) (now (row .entry)) (length (now (next .entry)))) (now (offset .entry)) ⌝ }
 {
     let held = wall_in(wall);
     match steps::take(held, part, row, next) {
-        Taken::Took(took) => {
-            let after = took.wall;
+        Answer::Taken(taken) => {
+            let after = taken.wall;
             *wall = wall_words(after, place_in(wall));
-            let number = took.number;
+            let number = taken.number;
             if number != 0 {
-                *offset = took.offset;
+                *offset = taken.offset;
             }
             number
         }
-        Taken::Unfit => UNFIT,
+        Answer::Unfit => UNFIT,
     }
 }

@@ -12,7 +12,7 @@ use Rattle.settings.specs.declared.Settings.{Settings}
 use Rattle.columns.specs.Columns.{are-neighbours}
 use Rattle.rule.specs.Stamp.{latest-stamp}
 use Rattle.admission.specs.Call.{Call}
-use Rattle.runs.specs.Run.{taken, rows, row-at}
+use Rattle.runs.specs.Run.{accepted-calls, rows, row-at}
 use Rattle.runs.specs.Reach.{Alike, Two-runs, apart, widest-gap, reach-ticks}
 use Rattle.reach.specs.Span.{first-within, last-within}
 use Rattle.reach.specs.Search.{gap-of, reach-of, reach-in-row}
@@ -59,7 +59,7 @@ pub record Searched (s : Settings) (row : List ℕ) (f l k : ℕ) (here there : 
 
 unfoldable pub Search-range : Type 0
 Search-range =
-    (s : Settings) (ts : List ℕ) (xs ys : List Call) (f k l : ℕ) → Two-runs Alike (s .width) f k (taken s xs ts) (taken s ys ts) →
+    (s : Settings) (ts : List ℕ) (xs ys : List Call) (f k l : ℕ) → Two-runs Alike (s .width) f k (accepted-calls s xs ts) (accepted-calls s ys ts) →
     length (rows s xs ts) ≡ s .rows → f < l → l ≤ s .rows →
     Searched s (row-at ts (rows s xs ts) f) f l k (row-at ts (rows s xs ts) l) (row-at ts (rows s ys ts) l)
 
@@ -67,7 +67,7 @@ Search-range =
 -- without faults
 unfoldable pub Largest-enough : Type 0
 Largest-enough =
-    (s : Settings) (ts : List ℕ) (xs ys : List Call) (f k l c : ℕ) → Two-runs Alike (s .width) f k (taken s xs ts) (taken s ys ts) →
+    (s : Settings) (ts : List ℕ) (xs ys : List Call) (f k l c : ℕ) → Two-runs Alike (s .width) f k (accepted-calls s xs ts) (accepted-calls s ys ts) →
     length (rows s xs ts) ≡ s .rows → l ≤ s .rows → c < s .width →
     apart (getD (row-at ts (rows s xs ts) l) c 0) (getD (row-at ts (rows s ys ts) l) c 0)
     ≤ largest-of s 0 0 (take (s .rows) (ts ∷ rows s xs ts))

@@ -14,7 +14,7 @@ ghost use Rattle.rule.specs.Stamp.{silence};
 ghost use Rattle.admission.specs.Call.{call};
 ghost use Rattle.pulse.specs.Pulse.{pulse};
 ghost use Rattle.admission.specs.Refusal.{row-refusal};
-ghost use Rattle.row.specs.Progress.{Filled};
+ghost use Rattle.row.specs.Progress.{Filled-with-ends};
 
 pub struct Progress {
     // The first column that is not yet written.
@@ -60,8 +60,8 @@ pub fn further(
     done: Progress,
 ) -> Progress
     requires { ⌜ (row-refusal settings (now before) (call (now marks) (now drifts) (now links) (settings .width)) ≡ 0) × (step ≡ step-of settings) × (length (now times) ≡ settings .width) × (done .next < settings .width) ⌝ }
-    requires { ⌜ Filled (pulse settings (now before) (call (now marks) (now drifts) (now links) (settings .width))) (now times) (now times) (done .earliest) (done .latest) (done .next) ⌝ }
-    ensures written { λ r. ⌜ Filled (pulse settings (now (before .entry)) (call (now (marks .entry)) (now (drifts .entry)) (now (links .entry)) (settings .width))) (now (times .entry)) (now (times .exit)) (r .earliest) (r .latest) (r .next) ⌝ }
+    requires { ⌜ Filled-with-ends (pulse settings (now before) (call (now marks) (now drifts) (now links) (settings .width))) (now times) (now times) (done .earliest) (done .latest) (done .next) ⌝ }
+    ensures written { λ r. ⌜ Filled-with-ends (pulse settings (now (before .entry)) (call (now (marks .entry)) (now (drifts .entry)) (now (links .entry)) (settings .width))) (now (times .entry)) (now (times .exit)) (r .earliest) (r .latest) (r .next) ⌝ }
     ensures onward { λ r. ⌜ done .next < r .next ⌝ }
 {
     let first = done.next;

@@ -8,7 +8,7 @@ use native.Mathlib.Nat.{le-refl}
 use native.Mathlib.Omega.{arith}
 use Rattle.settings.specs.Settings.{step-of, checked}
 use Rattle.rule.specs.Signed.{natural}
-use Rattle.rule.specs.Stamp.{Stamp, heard, _≼_, in-order, _∈_, here, there, earliest, latest, after, Within, within, none, more, All-but-one, this, later-on}
+use Rattle.rule.specs.Stamp.{Stamp, heard, _≼_, in-order, _∈_, here, there, earliest, latest, after, From-to, within, none, more, All-but-one, this, later-on}
 use Rattle.rule.specs.Closed.{closed-P}
 use Rattle.rule.specs.Pulse.{tile-P}
 use Rattle.rule.specs.Promises.{Tick-least, D-least, Rule-closed, Tile, P-exact, P-monotone, P-shifts, own-free, neighbour-free, Envelope, Between-two, Forward-between}
@@ -62,7 +62,7 @@ p-shifts s own (x ∷ xs) n t few =
     (P-after (limits s (t .checked) .unit .0) (step-of s) n (enough own (x ∷ xs) (t .two) few))
 
 -- among two neighbours or more of which one is free, one is not
-one-within : {lo hi : ℕ} {ns : List Stamp} → 2 ≤ length ns → All-but-one (Within lo hi) ns → (a : ℕ) × (heard a ∈ ns) × (lo ≤ a) × (a ≤ hi)
+one-within : {lo hi : ℕ} {ns : List Stamp} → 2 ≤ length ns → All-but-one (From-to lo hi) ns → (a : ℕ) × (heard a ∈ ns) × (lo ≤ a) × (a ≤ hi)
 one-within i (this (more (within {a = a} p q) xs)) = (a, there here, p, q)
 one-within i (later-on (within {a = a} p q) xs) = (a, here, p, q)
 one-within i (this none) = let never : ⊥ = omega arith in absurd never

@@ -9,7 +9,7 @@ use lib.Signed.{_≤ℤ_}
 use Rattle.settings.specs.Settings.{step-of, settings-refusal, checked}
 use Rattle.rule.specs.Clock.{reads, first-tick}
 use Rattle.rule.specs.Signed.{natural}
-use Rattle.rule.specs.Stamp.{Stamp, heard, _≼_, _≼*_, _∈_, earliest, latest, after, Within, All, All-but-one, unheard-of, unheard-in}
+use Rattle.rule.specs.Stamp.{Stamp, heard, _≼_, _≼*_, _∈_, earliest, latest, after, From-to, All, All-but-one, unheard-of, unheard-in}
 use Rattle.rule.specs.Forward.{larger-at, D, P}
 use Rattle.rule.specs.Closed.{closed-P}
 use Rattle.rule.specs.Pulse.{tile-P}
@@ -58,8 +58,8 @@ P-shifts =
 
 -- any one predecessor is arbitrary or silent, the others are heard from lo to hi
 pub data One-free (lo hi : ℕ) : (own : Stamp) → (neighbours : List Stamp) → Type 0 where
-  own-free : {own : Stamp} {ns : List Stamp} → All (Within lo hi) ns → One-free lo hi own ns
-  neighbour-free : {own : Stamp} {ns : List Stamp} → Within lo hi own → All-but-one (Within lo hi) ns → One-free lo hi own ns
+  own-free : {own : Stamp} {ns : List Stamp} → All (From-to lo hi) ns → One-free lo hi own ns
+  neighbour-free : {own : Stamp} {ns : List Stamp} → From-to lo hi own → All-but-one (From-to lo hi) ns → One-free lo hi own ns
 
 -- then P lies from lo - 3h to hi + 3h
 unfoldable pub Envelope : Type 0

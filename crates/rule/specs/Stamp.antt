@@ -65,8 +65,8 @@ pub data _∈_ (x : Stamp) : List Stamp → Type 0 where
   there : {y : Stamp} {xs : List Stamp} → x ∈ xs → x ∈ (y ∷ xs)
 
 -- heard, from lo to hi
-pub data Within (lo hi : ℕ) : Stamp → Type 0 where
-  within : {a : ℕ} → lo ≤ a → a ≤ hi → Within lo hi (heard a)
+pub data From-to (lo hi : ℕ) : Stamp → Type 0 where
+  within : {a : ℕ} → lo ≤ a → a ≤ hi → From-to lo hi (heard a)
 
 -- each of some stamps; each but one
 pub data All (Q : Stamp → Type 0) : List Stamp → Type 0 where

@@ -11,7 +11,7 @@ use Rattle.admission.specs.Call.{Call}
 use Rattle.links.specs.Links.{latest-time}
 use Rattle.columns.specs.Marks.{marked}
 use Rattle.admission.specs.Refusal.{late-time}
-use Rattle.runs.specs.Run.{taken, rows, call-at, row-at}
+use Rattle.runs.specs.Run.{accepted-calls, rows, call-at, row-at}
 use Rattle.runs.specs.Reach.{Alike, Alike-among, Two-runs, One-fault, One-more-fault}
 use Rattle.runs.specs.Program.{Program-one-fault, Program-one-more-fault}
 use Rattle.runs.proofs.Laws.Program.{run-of-calls}
@@ -92,7 +92,7 @@ never-late s ts xs l ms ok start i j =
     let run = run-of s xs ts in
     none-till (late-time (row-at ts (rows s xs ts) l) ms) (s .width)
     (λ c o. rw (le-ltb latest-time (getD (row-at ts (rows s xs ts) l) c 0)
-    (omega (arith, times-small s ts (taken s xs ts) (rows s xs ts) run start l c (omega (arith, run .as-many)) o)))
+    (omega (arith, times-small s ts (accepted-calls s xs ts) (rows s xs ts) run start l c (omega (arith, run .as-many)) o)))
     (and-false (not (marked ms c))))
 
 -- a wave that starts later

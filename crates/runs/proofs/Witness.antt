@@ -22,14 +22,14 @@ use Rattle.pulse.specs.Pulse.{arrives, arrival, read-at, stamp, pulse}
 use Rattle.row.specs.Row.{row-of}
 use Rattle.admission.specs.Refusal.{lengths-are, lengths-right, stray-mark, late-time, crowded, fast, row-tests, row-refusal}
 use Rattle.links.specs.Links.{bad-value, bad-link, bad-links}
-use Rattle.runs.specs.Run.{taken, rows, call-at, row-at}
+use Rattle.runs.specs.Run.{accepted-calls, rows, call-at, row-at}
 use Rattle.runs.specs.Reach.{Alike, apart, widest, gap-below, widest-gap, reach-ticks, One-fault}
 use Rattle.settings.proofs.Laws.AnyBelow.{none-below}
 use Rattle.runs.specs.Witness.{wall, row-0, sound, broken, stray, first-run, second-run, first-rows, second-rows, Witnessed, Rows-met, Differences-met, Reach-met, One-fault-met}
 
 -- the rows and the accepted calls
-computed : Rows-met × (taken wall first-run row-0 ≡ sound ∷ sound ∷ []) × (taken wall second-run row-0 ≡ sound ∷ broken ∷ [])
-unfolding Rows-met first-rows second-rows first-run second-run rows taken wall row-0 sound broken stray settings call row-refusal row-tests first outside up settings-refusal settings-tests drift-cost any-below any-of mark-bytes lengths-are lengths-right stray-mark late-time faulty-among crowded fast bad-value bad-link bad-links marked link link-place links-before place-in predecessors is-predecessor are-neighbours columns-from row-of table-from pulse tile-pulse tile-P P heard-correction D least-to larger-at larger smaller natural stamp arrival arrives read-at reads first-tick stamp-of earliest latest earlier later step-of step neighbours
+computed : Rows-met × (accepted-calls wall first-run row-0 ≡ sound ∷ sound ∷ []) × (accepted-calls wall second-run row-0 ≡ sound ∷ broken ∷ [])
+unfolding Rows-met first-rows second-rows first-run second-run rows accepted-calls wall row-0 sound broken stray settings call row-refusal row-tests first outside up settings-refusal settings-tests drift-cost any-below any-of mark-bytes lengths-are lengths-right stray-mark late-time faulty-among crowded fast bad-value bad-link bad-links marked link link-place links-before place-in predecessors is-predecessor are-neighbours columns-from row-of table-from pulse tile-pulse tile-P P heard-correction D least-to larger-at larger smaller natural stamp arrival arrives read-at reads first-tick stamp-of earliest latest earlier later step-of step neighbours
 computed = ((refl, refl), refl, refl)
 
 pub rows-met : Rows-met

@@ -9,7 +9,7 @@ use Rattle.settings.specs.declared.Settings.{Settings}
 use Rattle.columns.specs.Columns.{neighbours, is-predecessor, Hops-within, link}
 use Rattle.admission.specs.Call.{Call}
 use Rattle.columns.specs.Marks.{marked}
-use Rattle.runs.specs.Run.{taken, rows, call-at, row-at}
+use Rattle.runs.specs.Run.{accepted-calls, rows, call-at, row-at}
 
 -- "All else equal means: .. the two L-th accepted calls get the same drifts, marks and link values, save the faulty tile's
 -- mark and the values of its links to row f + 1." The tile is that of column k in row f; the first run has no faulty tile.
@@ -74,11 +74,11 @@ pub record Reach (s : Settings) (ts : List ℕ) (f k : ℕ) (rs qs : List (List 
 -- demand 3
 unfoldable pub One-fault : Type 0
 One-fault =
-    (s : Settings) (ts : List ℕ) (xs ys : List Call) (f k : ℕ) → Two-runs Alike (s .width) f k (taken s xs ts) (taken s ys ts) →
+    (s : Settings) (ts : List ℕ) (xs ys : List Call) (f k : ℕ) → Two-runs Alike (s .width) f k (accepted-calls s xs ts) (accepted-calls s ys ts) →
     Reach s ts f k (rows s xs ts) (rows s ys ts)
 
 -- where other tiles are faulty too, alike in both runs
 unfoldable pub One-more-fault : Type 0
 One-more-fault =
-    (s : Settings) (ts : List ℕ) (xs ys : List Call) (f k : ℕ) → Two-runs Alike-among (s .width) f k (taken s xs ts) (taken s ys ts) →
+    (s : Settings) (ts : List ℕ) (xs ys : List Call) (f k : ℕ) → Two-runs Alike-among (s .width) f k (accepted-calls s xs ts) (accepted-calls s ys ts) →
     Reach s ts f k (rows s xs ts) (rows s ys ts)

@@ -12,9 +12,9 @@ use Rattle.admission.specs.Refusal.{row-refusal}
 -- "A call's row before is the row 0 times until one call is accepted, from then on what the last accepted call wrote."
 -- "A call turned away, with whatever number, changes nothing and counts for no row."
 -- the accepted calls, and the rows that they wrote
-unfoldable pub taken : Settings → List Call → (row : List ℕ) → List Call
-taken s [] ts = []
-taken s (x ∷ xs) ts = cond (eqb (row-refusal s ts x) 0) (x ∷ taken s xs (row-of s ts x)) (taken s xs ts)
+unfoldable pub accepted-calls : Settings → List Call → (row : List ℕ) → List Call
+accepted-calls s [] ts = []
+accepted-calls s (x ∷ xs) ts = cond (eqb (row-refusal s ts x) 0) (x ∷ accepted-calls s xs (row-of s ts x)) (accepted-calls s xs ts)
 
 unfoldable pub rows : Settings → List Call → (row : List ℕ) → List (List ℕ)
 rows s [] ts = []

@@ -10,7 +10,7 @@ use Rattle.settings.specs.declared.Settings.{Settings}
 use Rattle.columns.specs.Columns.{is-predecessor, link}
 use Rattle.admission.specs.Call.{Call}
 use Rattle.columns.specs.Marks.{marked}
-use Rattle.runs.specs.Run.{taken, rows, call-at, row-at}
+use Rattle.runs.specs.Run.{accepted-calls, rows, call-at, row-at}
 
 -- the accepted calls of two runs alike but for faulty arrivals, which come n later in the second
 pub record Later (w n : ℕ) (xs ys : List Call) : Type 0 where
@@ -33,6 +33,6 @@ pub record Later (w n : ℕ) (xs ys : List Call) : Type 0 where
 unfoldable pub Shift-bounded : Type 0
 Shift-bounded =
     (s : Settings) (ts us : List ℕ) (xs ys : List Call) (n : ℕ) → ((c : ℕ) → c < s .width → getD us c 0 ≡ getD ts c 0 + n) →
-    Later (s .width) n (taken s xs ts) (taken s ys us) → (l c : ℕ) → l ≤ length (rows s xs ts) → c < s .width →
+    Later (s .width) n (accepted-calls s xs ts) (accepted-calls s ys us) → (l c : ℕ) → l ≤ length (rows s xs ts) → c < s .width →
     (getD (row-at ts (rows s xs ts) l) c 0 ≤ getD (row-at us (rows s ys us) l) c 0)
     × (getD (row-at us (rows s ys us) l) c 0 ≤ getD (row-at ts (rows s xs ts) l) c 0 + (n + l))

@@ -9,7 +9,7 @@ use Rattle.settings.specs.Settings.{settings}
 use Rattle.settings.specs.declared.Settings.{Settings}
 use Rattle.columns.specs.Columns.{table-from}
 use Rattle.admission.specs.Call.{Call, call}
-use Rattle.runs.specs.Run.{taken, rows, row-at}
+use Rattle.runs.specs.Run.{accepted-calls, rows, row-at}
 use Rattle.runs.specs.Reach.{Alike, Two-runs, apart, widest-gap, Reach, One-fault}
 
 unfoldable pub wall : Settings
@@ -42,7 +42,7 @@ second-run = sound ∷ stray ∷ broken ∷ []
 
 -- what demand 3 asks of two runs
 unfoldable pub Witnessed : Type 0
-Witnessed = Two-runs Alike (wall .width) 1 3 (taken wall first-run row-0) (taken wall second-run row-0)
+Witnessed = Two-runs Alike (wall .width) 1 3 (accepted-calls wall first-run row-0) (accepted-calls wall second-run row-0)
 
 -- their rows
 unfoldable pub first-rows : List (List ℕ)

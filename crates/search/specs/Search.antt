@@ -5,13 +5,13 @@ use Prim.Native.Nat.{ℕ}
 use Rattle.steps.specs.Step.{step-of}
 use Rattle.stages.specs.declared.Wall.{Wall}
 use Rattle.stages.specs.declared.Wall.the-variants.{Over}
-use Rattle.stream.specs.Run.{Step}
+use Rattle.stream.specs.Run.{Kind}
 use Rattle.telling.specs.Telling.{telling}
 use Rattle.telling.specs.Said.{Said}
 use Rattle.telling.specs.declared.Told.{Told}
 
 -- what a step tells, for the rows asked for, and the wall's row; the largest reach so far is kept
-unfoldable pub search-step : (asked : List ℕ) → Step ℕ
+unfoldable pub search-step : (asked : List ℕ) → Kind ℕ
 search-step asked x m ts bs =
     let t = telling asked x m ts bs in
     record { wall = t .wall; keeps = t .largest; row = step-of x ts bs .row; text = t .text }

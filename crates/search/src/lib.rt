@@ -1,7 +1,7 @@
 // The search range of a wall file, from one file descriptor to another: B of each row, the reach in the
 // later rows asked for, and the largest over the wall.
 use stages::Wall;
-use steps::Taken;
+use steps::Answer;
 use steps::rows::copy;
 use stream::Outcome;
 use stream::State;
@@ -137,12 +137,12 @@ fn step(
     ensures { λ r. ⌜ Tells (take 16 (now (asked .entry))) wall largest (now (part .entry)) (now (row .entry)) (now (output .entry)) at r (now (row .exit)) (now (output .exit)) ⌝ }
 {
     match steps::take(wall, part, row, next) {
-        Taken::Took(took) => {
-            let told = tell(asked, wall, took, part, row, largest, output, at);
+        Answer::Taken(taken) => {
+            let told = tell(asked, wall, taken, part, row, largest, output, at);
             copy(next, row);
             told
         }
-        Taken::Unfit => Told {
+        Answer::Unfit => Told {
             wall,
             largest,
             end: at,

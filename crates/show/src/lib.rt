@@ -1,7 +1,7 @@
 // The text of a step: the line of a refusal, or the lines of the row that is then shown.
 use stages::Place;
 use stages::Wall;
-use steps::Took;
+use steps::Taken;
 use steps::rows::copy;
 ghost use mathlib.Core.Path.{_≡_};
 ghost use mathlib.Core.Bool.{true};
@@ -15,13 +15,13 @@ ghost use Rattle.show.specs.Text.{texts-of};
 ghost use Rattle.steps.specs.Step.{step-of};
 ghost use Rattle.stages.specs.Fit.{place-fits, wall-fits};
 ghost use Rattle.lines.specs.Row.{step-room};
-ghost use Rattle.steps.specs.Take.{took-of, Next-row};
+ghost use Rattle.steps.specs.Take.{taken-of, Next-row};
 
 // Writes the text of a step that was taken, and its row in the place of the last; answers where the text ends.
 pub fn show(
     tables: &[u64],
     wall: Wall,
-    took: Took,
+    taken: Taken,
     part: &[u8],
     next: &[u64],
     row: &mut [u64],
@@ -29,13 +29,13 @@ pub fn show(
     at: usize,
 ) -> usize
     requires { ⌜ Tables (now tables) × (wall-fits wall (length (now row)) ≡ true) × (at + step-room ≤ length (now out)) ⌝ }
-    requires { ⌜ (took ≡ took-of (step-of wall (now row) (now part))) × Next-row wall (now row) (now part) (now next) ⌝ }
+    requires { ⌜ (taken ≡ taken-of (step-of wall (now row) (now part))) × Next-row wall (now row) (now part) (now next) ⌝ }
     ensures text { λ r. ⌜ Wrote (now (out .entry)) at (texts-of (step-of wall (now (row .entry)) (now (part .entry)) .shows)) (now (out .exit)) r ⌝ }
     ensures row { λ r. ⌜ now (row .exit) ≡ step-of wall (now (row .entry)) (now (part .entry)) .row ⌝ }
 {
-    let number = took.number;
+    let number = taken.number;
     if number != 0 {
-        return lines::refused_line(number as u64, took.offset, out, at);
+        return lines::refused_line(number as u64, taken.offset, out, at);
     }
     match wall {
         Wall::New => at,

@@ -14,22 +14,22 @@ use Rattle.stages.specs.declared.Wall.the-variants.{New, Start, Row, End, Over}
 use Rattle.steps.specs.Number.{settings-number, start-number, row-number, row-offset}
 use Rattle.steps.specs.Shown.{Shown, row-shown, no-marks}
 use Rattle.steps.specs.Step.{after-row}
-use Rattle.steps.specs.declared.Taken.{Taken}
-use Rattle.steps.specs.declared.Taken.the-variants as answer
+use Rattle.steps.specs.declared.Answer.{Answer}
+use Rattle.steps.specs.declared.Answer.the-variants as answer
 
 -- 01's number in each case of the answer, 0 where the part is accepted; what does not fit has none
-unfoldable pub number-of : Taken → Option ℕ
-number-of (answer.Took t) = some (t .number)
+unfoldable pub number-of : Answer → Option ℕ
+number-of (answer.Taken t) = some (t .number)
 number-of answer.Unfit = none
 
 -- the offset that comes with a refusal
-unfoldable pub offset-of : Taken → Option ℕ
-offset-of (answer.Took t) = cond (eqb (t .number) 0) none (some (t .offset))
+unfoldable pub offset-of : Answer → Option ℕ
+offset-of (answer.Taken t) = cond (eqb (t .number) 0) none (some (t .offset))
 offset-of answer.Unfit = none
 
 -- the wall afterwards
-unfoldable pub wall-of : Taken → Option Wall
-wall-of (answer.Took t) = some (t .wall)
+unfoldable pub wall-of : Answer → Option Wall
+wall-of (answer.Taken t) = some (t .wall)
 wall-of answer.Unfit = none
 
 -- by what is due: the number of the part, 0 where it is accepted

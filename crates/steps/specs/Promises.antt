@@ -8,16 +8,16 @@ use lib.ListN.{length}
 use Rattle.stages.specs.declared.Wall.{Wall}
 use Rattle.stages.specs.declared.Wall.the-variants.{Over}
 use Rattle.steps.specs.Answer.{number-of, offset-of, wall-of, number-due, offset-due, wall-then, row-then}
-use Rattle.steps.specs.Take.{takes, Taking}
-use Rattle.steps.specs.declared.Taken.{Taken}
+use Rattle.steps.specs.Take.{both-fit, Takes}
+use Rattle.steps.specs.declared.Answer.{Answer}
 
 -- the answer's number and values, and the lent row afterwards: where the rows don't fit, where the part is accepted, and where it is
 -- turned away
 unfoldable pub Take-answered : Type 0
 Take-answered =
-    (x : Wall) (part row held next : List ℕ) (answer : Taken) → Taking x part row held answer next →
-    (takes x (length row) (length held) ≡ false → (number-of answer ≡ none) × (offset-of answer ≡ none) × (wall-of answer ≡ none) × (next ≡ held))
-    × (takes x (length row) (length held) ≡ true → number-due x row part ≡ 0 →
+    (x : Wall) (part row held next : List ℕ) (answer : Answer) → Takes x part row held answer next →
+    (both-fit x (length row) (length held) ≡ false → (number-of answer ≡ none) × (offset-of answer ≡ none) × (wall-of answer ≡ none) × (next ≡ held))
+    × (both-fit x (length row) (length held) ≡ true → number-due x row part ≡ 0 →
     (number-of answer ≡ some 0) × (offset-of answer ≡ none) × (wall-of answer ≡ some (wall-then x part)) × (next ≡ row-then x row part held))
-    × (takes x (length row) (length held) ≡ true → (number-due x row part ≡ 0 → ⊥) →
+    × (both-fit x (length row) (length held) ≡ true → (number-due x row part ≡ 0 → ⊥) →
     (number-of answer ≡ some (number-due x row part)) × (offset-of answer ≡ some (offset-due x part)) × (wall-of answer ≡ some Over) × (next ≡ held))

@@ -10,16 +10,16 @@ use Rattle.steps.specs.Shown.{number-shown, offset-shown}
 use Rattle.stages.specs.Fit.{wall-fits}
 use Rattle.stages.specs.declared.Wall.{Wall}
 use Rattle.stages.specs.declared.Wall.the-variants.{New, Start, Row, End, Over}
-use Rattle.steps.specs.declared.Took.{Took}
 use Rattle.steps.specs.declared.Taken.{Taken}
-use Rattle.steps.specs.declared.Taken.the-variants as take
+use Rattle.steps.specs.declared.Answer.{Answer}
+use Rattle.steps.specs.declared.Answer.the-variants as take
 
 -- the wall of a step, with the number and the offset of its refusal
-unfoldable pub took : Wall → (number offset : ℕ) → Took
-took x n at = record { wall = x; number = n; offset = at }
+unfoldable pub taken : Wall → (number offset : ℕ) → Taken
+taken x n at = record { wall = x; number = n; offset = at }
 
-unfoldable pub took-of : Stepped → Took
-took-of o = took (o .next) (number-shown (o .shows)) (offset-shown (o .shows))
+unfoldable pub taken-of : Stepped → Taken
+taken-of o = taken (o .next) (number-shown (o .shows)) (offset-shown (o .shows))
 
 -- a lent row after a step that writes it: where it is turned away it holds what it held
 unfoldable pub row-left : Stepped → (held : List ℕ) → List ℕ
@@ -34,19 +34,19 @@ next-row (End p) ts bs held = held
 next-row Over ts bs held = held
 
 -- both rows are the wall's
-unfoldable pub takes : Wall → (row next : ℕ) → Bool
-takes x n m = wall-fits x n && wall-fits x m
+unfoldable pub both-fit : Wall → (row next : ℕ) → Bool
+both-fit x n m = wall-fits x n && wall-fits x m
 
 -- the answer, where a row of so many times is lent to be written: a step of the definition where both rows fit
-unfoldable pub take-of : Wall → (part row : List ℕ) → (next : ℕ) → Taken
-take-of x bs ts n = cond (takes x (length ts) n) (take.Took (took-of (step-of x ts bs))) take.Unfit
+unfoldable pub answer-of : Wall → (part row : List ℕ) → (next : ℕ) → Answer
+answer-of x bs ts n = cond (both-fit x (length ts) n) (take.Taken (taken-of (step-of x ts bs))) take.Unfit
 
 -- and that row afterwards
 unfoldable pub row-after : Wall → (part row held : List ℕ) → List ℕ
-row-after x bs ts held = cond (takes x (length ts) (length held)) (next-row x ts bs held) held
+row-after x bs ts held = cond (both-fit x (length ts) (length held)) (next-row x ts bs held) held
 
-pub record Taking (x : Wall) (part row held : List ℕ) (answer : Taken) (next : List ℕ) : Type 0 where
-  pub answered : answer ≡ take-of x part row (length held)
+pub record Takes (x : Wall) (part row held : List ℕ) (answer : Answer) (next : List ℕ) : Type 0 where
+  pub answered : answer ≡ answer-of x part row (length held)
   pub written : next ≡ row-after x part row held
 
 -- a row as a step wrote it, whatever it held before

@@ -8,47 +8,47 @@ use stages::Wall;
 use stages::fits;
 ghost use Prim.Native.Nat.{_≤_};
 ghost use lib.ListN.{length};
-ghost use Rattle.steps.specs.Take.{Taking};
+ghost use Rattle.steps.specs.Take.{Takes};
 
 // The wall as a step leaves it. Where the file is turned away the number is not 0, and the offset is
 // that of the refusal.
-pub struct Took {
+pub struct Taken {
     pub wall: Wall,
     pub number: u32,
     pub offset: u64,
 }
 
-pub enum Taken {
-    Took(Took),
+pub enum Answer {
+    Taken(Taken),
     // What was lent does not fit the wall; nothing has changed.
     Unfit,
 }
 
 // Takes the part of the file that is due. `row` is the wall's last, W times; `next` is written with
 // row 0 or the next row where that is accepted.
-pub fn take(wall: Wall, part: &[u8], row: &[u64], next: &mut [u64]) -> Taken
-    ensures { λ r. ⌜ Taking wall (now (part .entry)) (now (row .entry)) (now (next .entry)) r (now (next .exit)) ⌝ }
+pub fn take(wall: Wall, part: &[u8], row: &[u64], next: &mut [u64]) -> Answer
+    ensures { λ r. ⌜ Takes wall (now (part .entry)) (now (row .entry)) (now (next .entry)) r (now (next .exit)) ⌝ }
 {
     let mut links = row_fields::link_space();
     take_in(wall, part, row, &mut links, next)
 }
 
 // The same with room for link values that is made once for all steps.
-pub fn take_in(wall: Wall, part: &[u8], row: &[u64], links: &mut [u64], next: &mut [u64]) -> Taken
+pub fn take_in(wall: Wall, part: &[u8], row: &[u64], links: &mut [u64], next: &mut [u64]) -> Answer
     requires { ⌜ 770 ≤ length (now links) ⌝ }
-    ensures { λ r. ⌜ Taking wall (now (part .entry)) (now (row .entry)) (now (next .entry)) r (now (next .exit)) ⌝ }
+    ensures { λ r. ⌜ Takes wall (now (part .entry)) (now (row .entry)) (now (next .entry)) r (now (next .exit)) ⌝ }
 {
     if !fits(wall, row.len()) {
-        return Taken::Unfit;
+        return Answer::Unfit;
     }
     if !fits(wall, next.len()) {
-        return Taken::Unfit;
+        return Answer::Unfit;
     }
     match wall {
-        Wall::New => Taken::Took(steps::settings(part)),
-        Wall::Start(place) => Taken::Took(steps::start(place, part, next)),
-        Wall::Row(place) => Taken::Took(row_step::row(place, part, row, links, next)),
-        Wall::End(place) => Taken::Took(steps::end(place, part)),
-        Wall::Over => Taken::Took(steps::went_on(wall)),
+        Wall::New => Answer::Taken(steps::settings(part)),
+        Wall::Start(place) => Answer::Taken(steps::start(place, part, next)),
+        Wall::Row(place) => Answer::Taken(row_step::row(place, part, row, links, next)),
+        Wall::End(place) => Answer::Taken(steps::end(place, part)),
+        Wall::Over => Answer::Taken(steps::went_on(wall)),
     }
 }

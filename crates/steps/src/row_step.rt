@@ -1,5 +1,5 @@
 // The step that takes a row: its marks and tiles, and the row operation.
-use crate::Took;
+use crate::Taken;
 use crate::steps::refused;
 use crate::steps::went_on;
 use row_fields::plan;
@@ -12,11 +12,11 @@ ghost use Prim.Native.Nat.{_+_, _≤_};
 ghost use lib.ListN.{length};
 ghost use Rattle.steps.specs.Step.{row-step, after-row};
 ghost use Rattle.stages.specs.Fit.{place-fits};
-ghost use Rattle.steps.specs.Take.{took-of, row-left};
+ghost use Rattle.steps.specs.Take.{taken-of, row-left};
 
-pub fn row(place: Place, part: &[u8], row: &[u64], links: &mut [u64], next: &mut [u64]) -> Took
+pub fn row(place: Place, part: &[u8], row: &[u64], links: &mut [u64], next: &mut [u64]) -> Taken
     requires { ⌜ (place-fits place (length (now row)) ≡ true) × (place-fits place (length (now next)) ≡ true) × (770 ≤ length (now links)) ⌝ }
-    ensures took { λ r. ⌜ r ≡ took-of (row-step (place .settings) (place .row) (place .offset) (now (row .entry)) (now (part .entry))) ⌝ }
+    ensures taken { λ r. ⌜ r ≡ taken-of (row-step (place .settings) (place .row) (place .offset) (now (row .entry)) (now (part .entry))) ⌝ }
     ensures row { λ r. ⌜ now (next .exit) ≡ row-left (row-step (place .settings) (place .row) (place .offset) (now (row .entry)) (now (part .entry))) (now (next .entry)) ⌝ }
 {
     let width = row.len();

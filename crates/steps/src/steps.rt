@@ -1,5 +1,5 @@
 // The steps that take the settings, row 0 and the end of the file.
-use crate::Took;
+use crate::Taken;
 use settings::Checked;
 use stages::Place;
 use stages::Wall;
@@ -11,11 +11,11 @@ ghost use lib.ListN.{length};
 ghost use Rattle.steps.specs.Number.{start-number};
 ghost use Rattle.steps.specs.Step.{settings-step, start-step, end-step};
 ghost use Rattle.stages.specs.Fit.{place-fits};
-ghost use Rattle.steps.specs.Take.{took, took-of, row-left};
+ghost use Rattle.steps.specs.Take.{taken, taken-of, row-left};
 ghost use Rattle.stages.specs.declared.Wall.the-variants.{Over};
 
-pub fn settings(part: &[u8]) -> Took
-    ensures { λ r. ⌜ ((row : List ℕ) → r ≡ took-of (settings-step row (now (part .entry)))) ⌝ }
+pub fn settings(part: &[u8]) -> Taken
+    ensures { λ r. ⌜ ((row : List ℕ) → r ≡ taken-of (settings-step row (now (part .entry)))) ⌝ }
 {
     let number = fields::refusal(1, 24, part);
     if number != 0 {
@@ -32,9 +32,9 @@ pub fn settings(part: &[u8]) -> Took
     }
 }
 
-pub fn start(place: Place, part: &[u8], next: &mut [u64]) -> Took
+pub fn start(place: Place, part: &[u8], next: &mut [u64]) -> Taken
     requires { ⌜ place-fits place (length (now next)) ≡ true ⌝ }
-    ensures took { λ r. ⌜ ((row : List ℕ) → r ≡ took-of (start-step (place .settings) (place .offset) row (now (part .entry)))) ⌝ }
+    ensures taken { λ r. ⌜ ((row : List ℕ) → r ≡ taken-of (start-step (place .settings) (place .offset) row (now (part .entry)))) ⌝ }
     ensures row { λ r. ⌜ ((row : List ℕ) → now (next .exit) ≡ row-left (start-step (place .settings) (place .offset) row (now (part .entry))) (now (next .entry))) ⌝ }
 {
     let number = start_number(place, part);
@@ -67,8 +67,8 @@ fn start_number(place: Place, part: &[u8]) -> u32
     0
 }
 
-pub fn end(place: Place, part: &[u8]) -> Took
-    ensures { λ r. ⌜ ((row : List ℕ) → r ≡ took-of (end-step (place .settings) (place .row) (place .offset) row (now (part .entry)))) ⌝ }
+pub fn end(place: Place, part: &[u8]) -> Taken
+    ensures { λ r. ⌜ ((row : List ℕ) → r ≡ taken-of (end-step (place .settings) (place .row) (place .offset) row (now (part .entry)))) ⌝ }
 {
     if part.len() != 0 {
         return refused(44, place.offset);
@@ -77,10 +77,10 @@ pub fn end(place: Place, part: &[u8]) -> Took
 }
 
 // A step that is taken.
-pub fn went_on(wall: Wall) -> Took
-    ensures { λ r. ⌜ r ≡ took wall 0 0 ⌝ }
+pub fn went_on(wall: Wall) -> Taken
+    ensures { λ r. ⌜ r ≡ taken wall 0 0 ⌝ }
 {
-    Took {
+    Taken {
         wall,
         number: 0,
         offset: 0,
@@ -88,10 +88,10 @@ pub fn went_on(wall: Wall) -> Took
 }
 
 // A refusal, which ends the file.
-pub fn refused(number: u32, offset: u64) -> Took
-    ensures { λ r. ⌜ r ≡ took Over number offset ⌝ }
+pub fn refused(number: u32, offset: u64) -> Taken
+    ensures { λ r. ⌜ r ≡ taken Over number offset ⌝ }
 {
-    Took {
+    Taken {
         wall: Wall::Over,
         number,
         offset,

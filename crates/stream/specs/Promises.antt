@@ -6,14 +6,14 @@ use mathlib.Core.List.{List, [], _++_}
 use Prim.Native.Nat.{ℕ}
 use lib.ListN.{length, take}
 use Rattle.stages.specs.Fit.{due-of}
-use Rattle.stream.specs.Run.{Step}
+use Rattle.stream.specs.Run.{Kind}
 use Rattle.stream.specs.State.{Made-ready, Advanced, Standing, Ends}
 use Rattle.stream.specs.declared.State.{State}
 use Rattle.stream.specs.declared.Outcome.{Outcome}
 use Rattle.stream.specs.declared.Ended.the-variants.{Done}
 
 -- what `ready` and an `advance` ensure is one turn more of the chain
-unfoldable pub Turn-right : {K : Type 0} → Step K → (first : K) → Type 0
+unfoldable pub Turn-right : {K : Type 0} → Kind K → (first : K) → Type 0
 Turn-right {K} step first =
     (s m r : State) (k l : K) (input times output after times-after output-after : List ℕ) → (due-of (s .wall) ≡ 0 → ⊥) →
     Standing step first s k input times output → Made-ready s input (length output) m after →
@@ -22,7 +22,7 @@ Turn-right {K} step first =
 
 -- A run that is done has handed over what the definition of the whole gives for the bytes that were delivered, in whatever pieces. One
 -- whose read or write failed has handed over a beginning of that, whatever bytes would have followed.
-unfoldable pub Run-right : {K : Type 0} → Step K → (first : K) → (whole : (file : List ℕ) → List ℕ) → Type 0
+unfoldable pub Run-right : {K : Type 0} → Kind K → (first : K) → (whole : (file : List ℕ) → List ℕ) → Type 0
 Run-right {K} step first whole =
     (r : Outcome) (k : K) (times output : List ℕ) (e : Ends step first r k times output) →
     let delivered = e .ran .delivered in

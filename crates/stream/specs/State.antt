@@ -12,7 +12,7 @@ use Rattle.window.specs.Window.{In-buffer, bytes-in, lacking, Filled-up}
 use Rattle.file.specs.Stands.{Stands}
 use Rattle.stages.specs.declared.Wall.{Wall}
 use Rattle.stages.specs.declared.Wall.the-variants.{New, Over}
-use Rattle.stream.specs.Run.{Brought, Step, brings, Ran}
+use Rattle.stream.specs.Run.{Brought, Kind, brings, Ran}
 use Rattle.stream.specs.declared.State.{State}
 use Rattle.stream.specs.declared.Ended.{Ended}
 use Rattle.stream.specs.declared.Ended.the-variants.{Done, ReadFailed, WriteFailed}
@@ -60,7 +60,7 @@ unfoldable pub stepped : State → Wall → (text : ℕ) → State
 stepped s x n = record { wall = x; window = record { start = part-end s; end = s .window .end; ended = s .window .ended }; text = n }
 
 -- what a step of the due part leaves: its text stands behind what stood in the buffer, and its row in the row's place, unless the wall is over
-pub record Advanced {K : Type 0} (step : Step K) (s : State) (k : K) (input times output : List ℕ) (r : State) (l : K) (times-after output-after : List ℕ) : Type 0 where
+pub record Advanced {K : Type 0} (step : Kind K) (s : State) (k : K) (input times output : List ℕ) (r : State) (l : K) (times-after output-after : List ℕ) : Type 0 where
   pub state : r ≡ stepped s (brings step (s .wall) k times (bytes-in (s .window) input) .wall) (r .text)
   pub keeps : l ≡ brings step (s .wall) k times (bytes-in (s .window) input) .keeps
   pub row :
@@ -69,7 +69,7 @@ pub record Advanced {K : Type 0} (step : Step K) (s : State) (k : K) (input time
   pub text : Wrote output (s .text) (brings step (s .wall) k times (bytes-in (s .window) input) .text) output-after (r .text)
 
 -- a state that a chain of turns leads to, with what the buffers then hold
-pub record Standing {K : Type 0} (step : Step K) (first : K) (s : State) (k : K) (input times output : List ℕ) : Type 0 where
+pub record Standing {K : Type 0} (step : Kind K) (first : K) (s : State) (k : K) (input times output : List ℕ) : Type 0 where
   pub between : Between s (length input) (length output)
   pub ran : Ran step first (s .window .ended) (s .wall) k times (bytes-in (s .window) input) (take (s .text) output)
 
@@ -81,13 +81,13 @@ finished s WriteFailed r = r ≡ s
 
 -- How a run ends: at a state that a chain of turns leads to, where the failed turn began if one failed. It is done only where the wall is
 -- over and all text is handed over.
-pub record Ends {K : Type 0} (step : Step K) (first : K) (r : Outcome) (k : K) (times output : List ℕ) : Type 0 where
+pub record Ends {K : Type 0} (step : Kind K) (first : K) (r : Outcome) (k : K) (times output : List ℕ) : Type 0 where
   pub held : List ℕ
   pub ran : Ran step first (r .state .window .ended) (r .state .wall) k times held (take (r .state .text) output)
   pub done : r .ended ≡ Done → (r .state .wall ≡ Over) × (r .state .text ≡ 0)
 
 -- a run from its start comes to this, with buffers that are its own
-pub record Comes-to {K : Type 0} (step : Step K) (first : K) (r : Outcome) (k : K) : Type 0 where
+pub record Comes-to {K : Type 0} (step : Kind K) (first : K) (r : Outcome) (k : K) : Type 0 where
   pub times : List ℕ
   pub output : List ℕ
   pub ends : Ends step first r k times output

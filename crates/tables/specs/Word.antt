@@ -40,7 +40,7 @@ Holds t at n f = (k : ℕ) → k < n → getD t (at + k) 0 ≡ f k
 unfoldable pub Kept : (before after : List ℕ) → (at : ℕ) → Type 0
 Kept a b at = (k : ℕ) → k < at → getD b k 0 ≡ getD a k 0
 
-pub record Filled (before after : List ℕ) (at count : ℕ) (f : ℕ → ℕ) : Type 0 where
+pub record Table-part (before after : List ℕ) (at count : ℕ) (f : ℕ → ℕ) : Type 0 where
   pub as-long : length after ≡ length before
   pub kept : Kept before after at
   pub holds : Holds after at count f

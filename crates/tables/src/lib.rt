@@ -4,7 +4,7 @@ ghost use mathlib.Core.Path.{_≡_};
 ghost use Prim.Native.Nat.{_+_, _*_, _≤_, _<_};
 ghost use lib.ListN.{length};
 ghost use Rattle.lines.specs.Number.{glyph as Number·glyph};
-ghost use Rattle.tables.specs.Word.{pair, triple, spaced, word-of, Holds, Filled, Tables};
+ghost use Rattle.tables.specs.Word.{pair, triple, spaced, word-of, Holds, Table-part, Tables};
 
 // Where the parts stand. Eight hexadecimal digits are three, three and two of them: words of each three as
 // the first and as the next, and of each pair as the last. Eight decimal digits are four pairs.
@@ -55,7 +55,7 @@ pub fn fill(table: &mut [u64])
 // The pairs of digits in a base, at one place of a word.
 fn pairs(base: u64, place: u64, table: &mut [u64], at: usize)
     requires { ⌜ (1 < base) × (base ≤ 16) × (place ≤ 281474976710656) × (at + base * base ≤ length (now table)) ⌝ }
-    ensures { λ _. ⌜ Filled (now (table .entry)) (now (table .exit)) at (base * base) (λ k. pair base k * place) ⌝ }
+    ensures { λ _. ⌜ Table-part (now (table .entry)) (now (table .exit)) at (base * base) (λ k. pair base k * place) ⌝ }
 {
     let count = base * base;
     let mut k: u64 = 0;
@@ -67,7 +67,7 @@ fn pairs(base: u64, place: u64, table: &mut [u64], at: usize)
 
 fn columns(table: &mut [u64])
     requires { ⌜ length (now table) ≡ 9616 ⌝ }
-    ensures { λ _. ⌜ Filled (now (table .entry)) (now (table .exit)) 912 256 (λ k. word-of (spaced k)) ⌝ }
+    ensures { λ _. ⌜ Table-part (now (table .entry)) (now (table .exit)) 912 256 (λ k. word-of (spaced k)) ⌝ }
 {
     let mut k: u64 = 0;
     while k < 256 {
@@ -78,7 +78,7 @@ fn columns(table: &mut [u64])
 
 fn lengths(table: &mut [u64])
     requires { ⌜ length (now table) ≡ 9616 ⌝ }
-    ensures { λ _. ⌜ Filled (now (table .entry)) (now (table .exit)) 1168 256 (λ k. length (spaced k)) ⌝ }
+    ensures { λ _. ⌜ Table-part (now (table .entry)) (now (table .exit)) 1168 256 (λ k. length (spaced k)) ⌝ }
 {
     let mut k: u64 = 0;
     while k < 256 {
@@ -90,7 +90,7 @@ fn lengths(table: &mut [u64])
 // Each three hexadecimal digits: the pair of the first two, and the third.
 fn first_triples(table: &mut [u64])
     requires { ⌜ (length (now table) ≡ 9616) × Holds (now table) 0 256 (λ k. pair 16 k * 1) ⌝ }
-    ensures { λ _. ⌜ Filled (now (table .entry)) (now (table .exit)) 1424 4096 triple ⌝ }
+    ensures { λ _. ⌜ Table-part (now (table .entry)) (now (table .exit)) 1424 4096 triple ⌝ }
 {
     let mut k: u64 = 0;
     while k < 4096 {
@@ -103,7 +103,7 @@ fn first_triples(table: &mut [u64])
 // The same, three bytes on.
 fn next_triples(table: &mut [u64])
     requires { ⌜ (length (now table) ≡ 9616) × Holds (now table) 1424 4096 triple ⌝ }
-    ensures { λ _. ⌜ Filled (now (table .entry)) (now (table .exit)) 5520 4096 (λ k. triple k * 16777216) ⌝ }
+    ensures { λ _. ⌜ Table-part (now (table .entry)) (now (table .exit)) 5520 4096 (λ k. triple k * 16777216) ⌝ }
 {
     let mut k: u64 = 0;
     while k < 4096 {

@@ -6,7 +6,7 @@ use search_lines::line;
 use search_lines::row_lines;
 use stages::Place;
 use stages::Wall;
-use steps::Took;
+use steps::Taken;
 ghost use mathlib.Core.Path.{_≡_};
 ghost use mathlib.Core.Bool.{true};
 ghost use Prim.Native.Nat.{_+_, _≤_};
@@ -15,7 +15,7 @@ ghost use Rattle.columns.specs.Marks.{mark-bytes};
 ghost use Rattle.steps.specs.Step.{step-of};
 ghost use Rattle.stages.specs.Fit.{place-fits, wall-fits};
 ghost use Rattle.lines.specs.Row.{step-room};
-ghost use Rattle.steps.specs.Take.{took-of};
+ghost use Rattle.steps.specs.Take.{taken-of};
 ghost use Rattle.telling.specs.Telling.{first-marked, row-says, telling};
 ghost use Rattle.telling.specs.Said.{Said};
 
@@ -30,20 +30,20 @@ pub struct Told {
 pub fn tell(
     asked: &[u64],
     wall: Wall,
-    took: Took,
+    taken: Taken,
     part: &[u8],
     row: &[u64],
     largest: u64,
     out: &mut [u8],
     at: usize,
 ) -> Told
-    requires { ⌜ (wall-fits wall (length (now row)) ≡ true) × (took ≡ took-of (step-of wall (now row) (now part))) × (at + step-room ≤ length (now out)) ⌝ }
+    requires { ⌜ (wall-fits wall (length (now row)) ≡ true) × (taken ≡ taken-of (step-of wall (now row) (now part))) × (at + step-room ≤ length (now out)) ⌝ }
     ensures { λ r. ⌜ Said (telling (take 16 (now (asked .entry))) wall largest (now (row .entry)) (now (part .entry))) r (now (out .entry)) at (now (out .exit)) ⌝ }
 {
-    let after = took.wall;
-    let number = took.number;
+    let after = taken.wall;
+    let number = taken.number;
     if number != 0 {
-        let end = lines::refused_line(number as u64, took.offset, out, at);
+        let end = lines::refused_line(number as u64, taken.offset, out, at);
         return Told {
             wall: after,
             largest,

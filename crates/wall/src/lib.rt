@@ -3,7 +3,6 @@
 use lines::ROOM;
 use show::show;
 use stages::Wall;
-use steps::Taken;
 ghost use mathlib.Core.Path.{_≡_};
 ghost use Prim.Native.Nat.{_+_, _≤_};
 ghost use lib.Dec.{leb};
@@ -72,15 +71,15 @@ fn step_in(
     ensures { λ r. ⌜ Stepping wall (now (part .entry)) (now (row .entry)) (now (out .entry)) at r (now (row .exit)) (now (out .exit)) ⌝ }
 {
     match steps::take_in(wall, part, row, links, next) {
-        Taken::Took(took) => {
-            let next_wall = took.wall;
-            let end = show(tables, wall, took, part, next, row, out, at);
+        steps::Answer::Taken(taken) => {
+            let next_wall = taken.wall;
+            let end = show(tables, wall, taken, part, next, row, out, at);
             Answer::Went(Went {
                 wall: next_wall,
                 end,
             })
         }
-        Taken::Unfit => Answer::Unfit,
+        steps::Answer::Unfit => Answer::Unfit,
     }
 }
 

@@ -17,7 +17,7 @@ use Rattle.contents.proofs.tiles.Statement.{statement}
 use Rattle.contents.proofs.tiles.Tie as tie
 
 -- what the tiles below column c have left
-record Taken (w : ℕ) (body drifts₀ links₀ drifts links : List ℕ) (c n : ℕ) : Type 0 where
+record Read-so-far (w : ℕ) (body drifts₀ links₀ drifts links : List ℕ) (c n : ℕ) : Type 0 where
   pub drift : Filled (λ k. big-endian 2 body (tile-place w k)) drifts₀ drifts c
   pub place : n ≡ links-before w c
   pub same : length links ≡ length links₀
@@ -28,7 +28,7 @@ unfolding Links-counted
 counted w wide = links-counted w wide
 
 abbrev Inv-loop : tie.InvT-loop
-Inv-loop width body drifts₀ links₀ c₀ n₀ drifts links c n = Taken width body drifts₀ links₀ drifts links c n
+Inv-loop width body drifts₀ links₀ c₀ n₀ drifts links c n = Read-so-far width body drifts₀ links₀ drifts links c n
 
 abbrev μ-loop : tie.MeasureT-loop
 μ-loop width body drifts₀ links₀ c₀ n₀ drifts links c n = width - c

@@ -16,7 +16,7 @@ use Rattle.file.specs.File.{wall-text}
 use Rattle.steps.specs.Step.{stepped, away, step-of, steps-shown}
 use Rattle.stages.specs.Fit.{due-size, due-of, wall-fits}
 use Rattle.wall.specs.Operation.{fits, went-to, wall-of, end-of, Stepping}
-use Rattle.file.specs.Program.{Calls, over, lent, took}
+use Rattle.file.specs.Program.{Calls, over, lent, taken}
 use Rattle.stages.specs.declared.Place.{Place}
 use Rattle.stages.specs.declared.Wall.{Wall}
 use Rattle.stages.specs.declared.Wall.the-variants.{New, Start}
@@ -118,7 +118,7 @@ shows (over {row} {rest}) = record { steps = 0; shows = λ n i. rw (nothing-more
 shows (lent {p} {row} {rest} held c) =
     let k = shows c in
     record { steps = k .steps; shows = λ n i. rw (any-row n p held row rest) (k .shows n i) }
-shows (took held at answer next end row-after out d e f c) = one-more held at answer next end row-after out d e f (shows c)
+shows (taken held at answer next end row-after out d e f c) = one-more held at answer next end row-after out d e f (shows c)
 
 pub calls-right : (row file text : List ℕ) → Calls New row file text → text ≡ wall-text file
 unfolding wall-text

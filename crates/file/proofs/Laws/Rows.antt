@@ -14,7 +14,7 @@ use Rattle.row.specs.Row.{row-of}
 use Rattle.runs.specs.Growth.{Pulse-grows}
 use Rattle.columns.specs.Marks.{mark-bytes}
 use Rattle.admission.specs.Refusal.{row-refusal}
-use Rattle.runs.specs.Run.{taken, rows}
+use Rattle.runs.specs.Run.{accepted-calls, rows}
 use Rattle.columns.proofs.Laws.Lists.{table-length, table-at}
 use Rattle.runs.proofs.Promises.{pulse-grows}
 use Rattle.fields.specs.Field.{field-refusal}
@@ -75,14 +75,14 @@ module _ (s : Settings) where
         rows-accepted n (suc l) (at + row-size (s .width)) (row-of s ts x) (drop (row-size (s .width)) bs) r (grows x g a) (omega arith),
       )
 
-  pub all-taken : (n l : ℕ) (ts bs : List ℕ) → Rows-keep s n bs → Grown s l ts → l + n ≤ 1024 →
-      taken s (calls-in (s .width) n bs) ts ≡ calls-in (s .width) n bs
-  unfolding calls-in taken
-  all-taken zero l ts bs over g i = refl
-  all-taken (suc n) l ts bs (and-then k r) g i =
+  pub all-accepted : (n l : ℕ) (ts bs : List ℕ) → Rows-keep s n bs → Grown s l ts → l + n ≤ 1024 →
+      accepted-calls s (calls-in (s .width) n bs) ts ≡ calls-in (s .width) n bs
+  unfolding calls-in accepted-calls
+  all-accepted zero l ts bs over g i = refl
+  all-accepted (suc n) l ts bs (and-then k r) g i =
       let x = call-in (s .width) bs in
       let a = call-accepted s ts bs (keeps s ts (early-of g (omega arith)) bs k) in
-      rw (eq-eqb (row-refusal s ts x) 0 a, all-taken n (suc l) (row-of s ts x) (drop (row-size (s .width)) bs) r (grows x g a) (omega arith))
+      rw (eq-eqb (row-refusal s ts x) 0 a, all-accepted n (suc l) (row-of s ts x) (drop (row-size (s .width)) bs) r (grows x g a) (omega arith))
 
 -- what a row shows is no refusal
 pub number-after : (s : Settings) (l : ℕ) (ms ts : List ℕ) (xs : List Shown) → number-shown (row-shown s l ms ts ++ xs) ≡ number-shown xs

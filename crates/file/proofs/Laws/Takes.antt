@@ -15,13 +15,13 @@ use Rattle.stages.proofs.Laws.{fits-due}
 use Rattle.steps.specs.Answer.{wall-of, number-due, row-then}
 use Rattle.steps.specs.Shown.{Shown}
 use Rattle.steps.specs.Step.{stepped, away, step-of, steps-shown}
-use Rattle.steps.specs.Take.{took, next-row, Taking}
-use Rattle.steps.specs.declared.Took.{Took}
+use Rattle.steps.specs.Take.{taken, next-row, Takes}
 use Rattle.steps.specs.declared.Taken.{Taken}
-use Rattle.steps.specs.declared.Taken.the-variants as answer
-use Rattle.steps.proofs.Laws.Answer.{step-goes, step-away, took-goes, took-gone, row-goes-on}
-use Rattle.steps.proofs.Laws.Fit.{takes-both}
-use Rattle.steps.proofs.Laws.Taken.{Took-step, took-step}
+use Rattle.steps.specs.declared.Answer.{Answer}
+use Rattle.steps.specs.declared.Answer.the-variants as answer
+use Rattle.steps.proofs.Laws.Answer.{step-goes, step-away, taken-goes, taken-gone, row-goes-on}
+use Rattle.steps.proofs.Laws.Fit.{fit-both}
+use Rattle.steps.proofs.Laws.Taken.{Taken-step, taken-step}
 use Rattle.file.specs.File.{shown}
 use Rattle.file.specs.Takes as specs
 use Rattle.file.specs.Takes.{call-shows, lent-next, Take-calls}
@@ -39,21 +39,21 @@ lent-is (End p) row part held next w e = refl
 lent-is Over row part held next w e = refl
 
 -- a call that took a step shows what the step shows, and the next goes on from there
-module _ (x : Wall) (row part held next : List ℕ) (t : Took) (k : Took-step x part row held t next) where
-  shows-is : call-shows x row part (answer.Took t) ≡ step-of x row part .shows
-  unfolding call-shows took stepped away
+module _ (x : Wall) (row part held next : List ℕ) (t : Taken) (k : Taken-step x part row held t next) where
+  shows-is : call-shows x row part (answer.Taken t) ≡ step-of x row part .shows
+  unfolding call-shows taken stepped away
   shows-is =
       by-equal (number-due x row part) 0
-      (λ e. rw (k .is ∙ took-goes row part x e, step-goes row part x e))
-      (λ n. rw (k .is ∙ took-gone row part x n, step-away row part x n, ne-eqb (number-due x row part) 0 n))
+      (λ e. rw (k .is ∙ taken-goes row part x e, step-goes row part x e))
+      (λ n. rw (k .is ∙ taken-gone row part x n, step-away row part x n, ne-eqb (number-due x row part) 0 n))
 
   goes-on : (m : ℕ) (rest : List ℕ) →
       steps-shown m (step-of x row part .next) (step-of x row part .row) rest ≡ steps-shown m (t .wall) (lent-next x row next) rest
-  unfolding took stepped away
+  unfolding taken stepped away
   goes-on m rest =
       by-equal (number-due x row part) 0
-      (λ e. rw (k .is ∙ took-goes row part x e, step-goes row part x e, lent-is x row part held next (k .written) e))
-      (λ n. rw (k .is ∙ took-gone row part x n, step-away row part x n, nothing-more m row rest) (sym (nothing-more m (lent-next x row next) rest)))
+      (λ e. rw (k .is ∙ taken-goes row part x e, step-goes row part x e, lent-is x row part held next (k .written) e))
+      (λ n. rw (k .is ∙ taken-gone row part x n, step-away row part x n, nothing-more m row rest) (sym (nothing-more m (lent-next x row next) rest)))
 
 -- what one step shows and those after it
 step-then : (m : ℕ) (x : Wall) (n : ℕ) (row rest : List ℕ) → wall-fits x n ≡ true →
@@ -67,25 +67,25 @@ record Shows (x : Wall) (row rest : List ℕ) (shows : List Shown) : Type 0 wher
   pub steps : ℕ
   pub is : (n : ℕ) → steps ≤ n → steps-shown n x row rest ≡ shows
 
-one-more : {x : Wall} {row rest : List ℕ} {shows : List Shown} (held : List ℕ) (a : Taken) (y : Wall) (next : List ℕ) →
-    Taking x (take (due-of x) rest) row held a next → wall-of a ≡ some y → Shows y (lent-next x row next) (drop (due-of x) rest) shows →
+one-more : {x : Wall} {row rest : List ℕ} {shows : List Shown} (held : List ℕ) (a : Answer) (y : Wall) (next : List ℕ) →
+    Takes x (take (due-of x) rest) row held a next → wall-of a ≡ some y → Shows y (lent-next x row next) (drop (due-of x) rest) shows →
     Shows x row rest (call-shows x row (take (due-of x) rest) a ++ shows)
 unfolding wall-of
 one-more {x} {row} {rest} {shows} held answer.Unfit y next d e k =
     let never : _≡_ {A = ℕ} 0 1 = cc in absurd (let g : ⊥ = omega arith in g)
-one-more {x} {row} {rest} {shows} held (answer.Took t) y next d e k = record { steps = suc (k .steps); is = go }
+one-more {x} {row} {rest} {shows} held (answer.Taken t) y next d e k = record { steps = suc (k .steps); is = go }
   where
     part : List ℕ
     part = take (due-of x) rest
 
-    s : Took-step x part row held t next
-    s = took-step d refl
+    s : Taken-step x part row held t next
+    s = taken-step d refl
 
-    go : (n : ℕ) → suc (k .steps) ≤ n → steps-shown n x row rest ≡ call-shows x row part (answer.Took t) ++ shows
+    go : (n : ℕ) → suc (k .steps) ≤ n → steps-shown n x row rest ≡ call-shows x row part (answer.Taken t) ++ shows
     go zero j = let never : ⊥ = omega arith in absurd never
     go (suc m) j =
         let wall : t .wall ≡ y = cc in
-        step-then m x (length row) row rest (takes-both x (length row) (length held) (s .fits) .0)
+        step-then m x (length row) row rest (fit-both x (length row) (length held) (s .fits) .0)
         ∙ ap (λ (l : List Shown). step-of x row part .shows ++ l)
         (goes-on x row part held next t s m (drop (due-of x) rest) ∙ rw wall (k .is m (omega arith)))
         ∙ ap (λ (l : List Shown). l ++ shows) (sym (shows-is x row part held next t s))
@@ -95,7 +95,7 @@ shows (specs.over {row} {rest}) = record { steps = 0; is = λ n i. nothing-more 
 shows (specs.lent {p} {row} {rest} held c) =
     let k = shows c in
     record { steps = k .steps; is = λ n i. any-row n p held row rest ∙ k .is n i }
-shows (specs.took held a y next d e c) = one-more held a y next d e (shows c)
+shows (specs.taken held a y next d e c) = one-more held a y next d e (shows c)
 
 pub take-calls-right : (row file : List ℕ) (xs : List Shown) → Take-calls New row file xs → xs ≡ shown file
 take-calls-right row file xs c =

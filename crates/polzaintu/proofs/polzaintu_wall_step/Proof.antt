@@ -2,7 +2,7 @@
 use mathlib.Core.Path.{_≡_, sym, _∙_, ap}
 use lib.ListN.{length}
 use borrow.Author.Tests.{eq-eqb, ne-eqb}
-use Rattle.steps.specs.Take.{take-of, row-after}
+use Rattle.steps.specs.Take.{answer-of, row-after}
 use Rattle.stages.specs.declared.Wall.{Wall}
 use Rattle.layout.specs.Words.{place-in, wall-in, wall-words}
 use Rattle.polzaintu.specs.Answers.{step-number, wall-left, offset-left}
@@ -15,10 +15,10 @@ abbrev start : tie.After-take → tie.Start
 start c = c .before .before .before .before .before .before .before
 
 -- the operation's answer and row
-answer : (c : tie.After-take) → let a = start c .args in c .take .result ≡ take-of (wall-in (a .wall .now)) (a .part .now) (a .row .now) (length (a .next .now))
+answer : (c : tie.After-take) → let a = start c .args in c .take .result ≡ answer-of (wall-in (a .wall .now)) (a .part .now) (a .row .now) (length (a .next .now))
 answer c =
     let a = start c .args in
-    c .take .ensures .answered ∙ ap (λ (x : Wall). take-of x (a .part .now) (a .row .now) (length (a .next .now))) (c .before .before .wall-in .ensures)
+    c .take .ensures .answered ∙ ap (λ (x : Wall). answer-of x (a .part .now) (a .row .now) (length (a .next .now))) (c .before .before .wall-in .ensures)
 
 row : (c : tie.After-take) → let a = start c .args in c .take .last .1 .1 .1 .0 ≡ row-after (wall-in (a .wall .now)) (a .part .now) (a .row .now) (a .next .now)
 row c =
@@ -28,10 +28,10 @@ row c =
 -- the wall's words
 words : (c : tie.After-wall-words) →
     let t = c .before .before .before .before in
-    c .wall-words .result ≡ wall-words (t .took .given .0 .0 .wall) (place-in (start (t .before .before .before .before) .args .wall .now))
+    c .wall-words .result ≡ wall-words (t .taken .given .0 .0 .wall) (place-in (start (t .before .before .before .before) .args .wall .now))
 words c =
     let t = c .before .before .before .before in
-    c .wall-words .ensures ∙ ap (wall-words (t .took .given .0 .0 .wall)) (c .before .place-in .ensures)
+    c .wall-words .ensures ∙ ap (wall-words (t .taken .given .0 .0 .wall)) (c .before .place-in .ensures)
 
 wall-in-requires : tie.Need-wall-in-requires
 wall-in-requires c κs = search needs
@@ -39,8 +39,8 @@ wall-in-requires c κs = search needs
 take-requires : tie.Need-take-requires
 take-requires c κs = search needs
 
-enum-known-took : tie.Need-enum-known-took
-enum-known-took c = search needs
+enum-known-taken : tie.Need-enum-known-taken
+enum-known-taken c = search needs
 
 place-in-requires : tie.Need-place-in-requires
 place-in-requires c κs = search needs
@@ -60,8 +60,8 @@ returns c =
     let w = c .before in
     let t = w .before .before .before .before in
     let p = t .before .before .before .before in
-    let e = sym (answer p) ∙ t .took .given .1 in
-    (sym (rw e), (words w ∙ sym (rw e), (row p, sym (rw (e, ne-eqb (t .took .given .0 .0 .number) 0 (c .if1 .taken))))))
+    let e = sym (answer p) ∙ t .taken .given .1 in
+    (sym (rw e), (words w ∙ sym (rw e), (row p, sym (rw (e, ne-eqb (t .taken .given .0 .0 .number) 0 (c .if1 .taken))))))
 
 same-length-2 : tie.Need-same-length-2
 same-length-2 c = search needs
@@ -72,8 +72,8 @@ returns-2 c =
     let w = c .before in
     let t = w .before .before .before .before in
     let p = t .before .before .before .before in
-    let e = sym (answer p) ∙ t .took .given .1 in
-    (sym (rw e), (words w ∙ sym (rw e), (row p, sym (rw (e, eq-eqb (t .took .given .0 .0 .number) 0 (c .if1 .left))))))
+    let e = sym (answer p) ∙ t .taken .given .1 in
+    (sym (rw e), (words w ∙ sym (rw e), (row p, sym (rw (e, eq-eqb (t .taken .given .0 .0 .number) 0 (c .if1 .left))))))
 
 same-length-3 : tie.Need-same-length-3
 same-length-3 c = search needs
@@ -91,7 +91,7 @@ polzaintu-wall-step-spec =
     (tie.spec
     wall-in-requires
     take-requires
-    enum-known-took
+    enum-known-taken
     place-in-requires
     wall-words-requires
     enum-told

@@ -8,7 +8,7 @@ use native.Mathlib.Omega.{arith}
 use Rattle.settings.specs.declared.Settings.{Settings}
 use Rattle.rule.specs.Stamp.{latest-stamp}
 use Rattle.columns.specs.Marks.{marked}
-use Rattle.runs.specs.Run.{taken, call-at, row-at}
+use Rattle.runs.specs.Run.{accepted-calls, call-at, row-at}
 use Rattle.runs.specs.Reach.{Alike, Two-runs, widest-gap, reach-ticks}
 use Rattle.runs.proofs.Laws.Run.{run-of}
 use Rattle.reach.specs.Survey.{last-reach, largest-of}
@@ -58,12 +58,12 @@ module _ {a b : List ℕ} {f k : ℕ} (t : Two-files a b f k) where
   pub clean : (l c : ℕ) → l < s .rows → c < s .width → marked (call-at (calls-of a) l .marks) c ≡ false
   clean l c i j = t .alike .first-clean l c (omega (arith, i, called)) j
 
-  pub runs-of-files : Two-runs Alike (s .width) f k (taken s (calls-of a) (start-of a)) (taken s (calls-of b) (start-of a))
+  pub runs-of-files : Two-runs Alike (s .width) f k (accepted-calls s (calls-of a) (start-of a)) (accepted-calls s (calls-of b) (start-of a))
   unfolding Others-refused File-is-run
   runs-of-files =
       let p = file-is-run a (first-keeps t) in
       let q = file-is-run b (others-refused b (t .second)) in
-      let there : taken s (calls-of b) (start-of a) ≡ calls-of b = rw (t .settings, t .start) (q .0) in
+      let there : accepted-calls s (calls-of b) (start-of a) ≡ calls-of b = rw (t .settings, t .start) (q .0) in
       rw (p .0, there) (record { row = omega (arith, t .row, called); column = t .column; alike = t .alike })
 
   -- the rows before the last have no wide gap

@@ -12,7 +12,7 @@ use Rattle.settings.proofs.Laws.Settings.{limits}
 use Rattle.rule.specs.Stamp.{latest-stamp}
 use Rattle.admission.specs.Call.{Call}
 use Rattle.admission.proofs.Laws.Accepted.{Accepted, accepted}
-use Rattle.runs.specs.Run.{taken, rows, call-at, row-at}
+use Rattle.runs.specs.Run.{accepted-calls, rows, call-at, row-at}
 use Rattle.runs.specs.Reach.{Alike, Two-runs, widest-gap, reach-ticks, One-fault}
 use Rattle.runs.proofs.Promises.{one-fault}
 use Rattle.runs.proofs.Laws.Run.{run-of, run-checked}
@@ -41,13 +41,13 @@ module _ (s : Settings) (row : List ℕ) (f l k : ℕ) (ok : settings-refusal s 
   in-row = rw (row-answer s b f l k .later ok after last-row) by-rows
 
 -- two runs: the rows that calls come after are rows of a wall, since each call is accepted, and in the first marks nothing
-module _ (s : Settings) (ts : List ℕ) (xs ys : List Call) (f k : ℕ) (t : Two-runs Alike (s .width) f k (taken s xs ts) (taken s ys ts)) where
-  first-accepted : (l : ℕ) → l < length (taken s xs ts) → Accepted s (row-at ts (rows s xs ts) l) (call-at (taken s xs ts) l)
-  first-accepted l i = accepted s (row-at ts (rows s xs ts) l) (call-at (taken s xs ts) l) (run-of s xs ts .goes l i)
+module _ (s : Settings) (ts : List ℕ) (xs ys : List Call) (f k : ℕ) (t : Two-runs Alike (s .width) f k (accepted-calls s xs ts) (accepted-calls s ys ts)) where
+  first-accepted : (l : ℕ) → l < length (accepted-calls s xs ts) → Accepted s (row-at ts (rows s xs ts) l) (call-at (accepted-calls s xs ts) l)
+  first-accepted l i = accepted s (row-at ts (rows s xs ts) l) (call-at (accepted-calls s xs ts) l) (run-of s xs ts .goes l i)
 
   pub first-early : (l : ℕ) → l < length (rows s xs ts) → (c : ℕ) → c < s .width → getD (row-at ts (rows s xs ts) l) c 0 ≤ latest-stamp
   first-early l i c j =
-      let called : l < length (taken s xs ts) = omega (arith, i, run-of s xs ts .as-many) in
+      let called : l < length (accepted-calls s xs ts) = omega (arith, i, run-of s xs ts .as-many) in
       omega (arith, first-accepted l called .time c j (t .alike .first-clean l c called j))
 
   checked : settings-refusal s ≡ 0

@@ -10,7 +10,7 @@ use Rattle.rule.specs.Stamp.{silence}
 use Rattle.settings.proofs.Laws.Cases.{by-equal}
 use Rattle.columns.specs.Columns.{table-from}
 use Rattle.row.specs.Row.{least-of, most-of}
-use Rattle.row.specs.Progress.{Filled}
+use Rattle.row.specs.Progress.{Filled-with-ends}
 use Rattle.columns.proofs.Laws.Lists.{table-length, table-at}
 
 module _ (f : ℕ → ℕ) where
@@ -24,7 +24,7 @@ module _ (f : ℕ → ℕ) where
   most-grows zero a = let e : a + 0 ≡ a = omega arith in rw e (omega arith)
   most-grows (suc n) a = let e : a + suc n ≡ suc a + n = omega arith in rw e (omega (arith, most-grows n (suc a)))
 
-pub none-filled : (f : ℕ → ℕ) (held : List ℕ) → Filled f held held silence 0 0
+pub none-filled : (f : ℕ → ℕ) (held : List ℕ) → Filled-with-ends f held held silence 0 0
 unfolding least-of most-of table-from
 none-filled f held =
     record {
@@ -35,8 +35,8 @@ none-filled f held =
       is-most = refl;
     }
 
-module _ {f : ℕ → ℕ} {held times : List ℕ} {least most c : ℕ} (r : Filled f held times least most c) where
-  pub one-more : {t l m : ℕ} → c < length held → t ≡ f c → l ≡ min least t → m ≡ max most t → Filled f held (set times c t) l m (c + 1)
+module _ {f : ℕ → ℕ} {held times : List ℕ} {least most c : ℕ} (r : Filled-with-ends f held times least most c) where
+  pub one-more : {t l m : ℕ} → c < length held → t ≡ f c → l ≡ min least t → m ≡ max most t → Filled-with-ends f held (set times c t) l m (c + 1)
   one-more {t} {l} {m} i e is-l is-m =
       let start : 0 + c ≡ c = omega arith in
       record {
@@ -50,7 +50,7 @@ module _ {f : ℕ → ℕ} {held times : List ℕ} {least most c : ℕ} (r : Fil
       }
 
   -- only the length of what was held matters
-  pub held-as : {other : List ℕ} → length other ≡ length held → Filled f other times least most c
+  pub held-as : {other : List ℕ} → length other ≡ length held → Filled-with-ends f other times least most c
   held-as e =
       record { same = r .same ∙ sym e; within = omega (arith, r .within); filled = r .filled; is-least = r .is-least; is-most = r .is-most }
 

@@ -15,7 +15,7 @@ use Rattle.pulse.specs.Pulse.{pulse}
 use Rattle.columns.specs.Columns.{table-from}
 use Rattle.row.specs.Row.{row-of, least-of, most-of, planned, written}
 use Rattle.admission.specs.Refusal.{row-refusal}
-use Rattle.row.specs.Progress.{Filled}
+use Rattle.row.specs.Progress.{Filled-with-ends}
 use Rattle.row.specs.declared.Planned.the-variants.{Row, Refused}
 use Rattle.admission.proofs.Laws.Accepted.{Accepted, accepted}
 use Rattle.row.proofs.Laws.Table.{none-filled, held-as, all-filled}
@@ -39,7 +39,7 @@ module _ (s : Settings) (ts : List ℕ) (x : Call) where
 
 abbrev Inv-loop : tie.InvT-loop
 Inv-loop settings before marks drifts links times₀ number step done₀ times done =
-    Filled (pulse settings before (call marks drifts links (settings .width))) times₀ times (done .earliest) (done .latest) (done .next)
+    Filled-with-ends (pulse settings before (call marks drifts links (settings .width))) times₀ times (done .earliest) (done .latest) (done .next)
 
 abbrev μ-loop : tie.MeasureT-loop
 μ-loop settings before marks drifts links times₀ number step done₀ times done = length times₀ - done .next

@@ -7,7 +7,7 @@ use mathlib.Core.List.{List}
 use Prim.Native.Nat.{ℕ, _+_, _-_, _*_, _≤_, _<_, min, max}
 use lib.ListN.{length}
 use native.Mathlib.Omega.{arith}
-use Rattle.rule.specs.Stamp.{Stamp, heard, silent, _≼_, in-order, last, earliest, latest, after, Within, within, unheard-of, unheard-in}
+use Rattle.rule.specs.Stamp.{Stamp, heard, silent, _≼_, in-order, last, earliest, latest, after, From-to, within, unheard-of, unheard-in}
 use Rattle.rule.specs.Closed.{closed-P}
 use Rattle.rule.proofs.Laws.Heard.{heard-least, heard-most, heard-by-least, heard-by-most, heard-mono, heard-shift}
 use Rattle.rule.proofs.Laws.Stamp.{By, heard-by, unheard, earliest-heard, latest-heard}
@@ -45,7 +45,7 @@ module _ {h : ℕ} (pos : 0 < h) (j : ℕ) where
   P-after n without-own = omega arith
 
   -- whatever own is, P lies within 3h of the neighbours
-  pub by-neighbours : (lo hi : ℕ) (own : Stamp) {l m : Stamp} → l ≼ m → Within lo hi l → Within lo hi m →
+  pub by-neighbours : (lo hi : ℕ) (own : Stamp) {l m : Stamp} → l ≼ m → From-to lo hi l → From-to lo hi m →
       (lo ≤ closed-P h j own l m + 3 * h) × (closed-P h j own l m ≤ hi + 3 * h)
   unfolding closed-P
   by-neighbours lo hi (heard o) (in-order i) (within a b) (within c d) = omega (arith, heard-least pos j o i, heard-most pos j o i)

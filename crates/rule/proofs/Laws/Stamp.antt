@@ -5,7 +5,7 @@ use Prim.Native.Nat.{ℕ, suc, _≤_, _<_, zero-le, min, max}
 use lib.ListN.{length}
 use native.Mathlib.Nat.{le-refl, le-trans, min-le-left, min-le-right, le-max-left, le-max-right, le-min, max-le}
 use native.Mathlib.Omega.{arith}
-use Rattle.rule.specs.Stamp.{Stamp, heard, silent, _≼_, in-order, last, earlier, later, earliest, latest, after, _≼*_, none, both, _∈_, here, there, Within, within, All, more, unheard-of, unheard-in}
+use Rattle.rule.specs.Stamp.{Stamp, heard, silent, _≼_, in-order, last, earlier, later, earliest, latest, after, _≼*_, none, both, _∈_, here, there, From-to, within, All, more, unheard-of, unheard-in}
 
 pub ≼-refl : (x : Stamp) → x ≼ x
 ≼-refl (heard a) = in-order (le-refl a)
@@ -84,20 +84,20 @@ latest-mono (both {x = x} {y = y} {xs = xs} {ys = ys} p q) =
 
 -- of stamps in a range
 module _ {lo hi : ℕ} where
-  earlier-within : {x y : Stamp} → Within lo hi x → Within lo hi y → Within lo hi (earlier x y)
+  earlier-within : {x y : Stamp} → From-to lo hi x → From-to lo hi y → From-to lo hi (earlier x y)
   unfolding earlier
   earlier-within (within {a = a} p q) (within {a = b} r s) = within (le-min p r) (le-trans (min-le-left a b) q)
 
-  later-within : {x y : Stamp} → Within lo hi x → Within lo hi y → Within lo hi (later x y)
+  later-within : {x y : Stamp} → From-to lo hi x → From-to lo hi y → From-to lo hi (later x y)
   unfolding later
   later-within (within {a = a} p q) (within {a = b} r s) = within (le-trans p (le-max-left a b)) (max-le q s)
 
-  pub earliest-within : {x : Stamp} {xs : List Stamp} → Within lo hi x → All (Within lo hi) xs → Within lo hi (earliest (x ∷ xs))
+  pub earliest-within : {x : Stamp} {xs : List Stamp} → From-to lo hi x → All (From-to lo hi) xs → From-to lo hi (earliest (x ∷ xs))
   unfolding earliest earlier
   earliest-within (within p q) none = within p q
   earliest-within p (more q r) = earlier-within p (earliest-within q r)
 
-  pub latest-within : {x : Stamp} {xs : List Stamp} → Within lo hi x → All (Within lo hi) xs → Within lo hi (latest (x ∷ xs))
+  pub latest-within : {x : Stamp} {xs : List Stamp} → From-to lo hi x → All (From-to lo hi) xs → From-to lo hi (latest (x ∷ xs))
   unfolding latest later
   latest-within (within {a = a} p q) none = within (le-trans p (le-max-left a 0)) (max-le q zero-le)
   latest-within p (more q r) = later-within p (latest-within q r)

@@ -8,7 +8,7 @@ use lib.ListN.{getD}
 use native.Mathlib.Omega.{arith}
 use borrow.Author.Tests.{ne-eqb}
 use Rattle.rule.specs.Clock.{reads, first-tick}
-use Rattle.rule.specs.Stamp.{Stamp, heard, silent, _≼_, in-order, last, _≼*_, after, Within, within, unheard-of, unheard-in}
+use Rattle.rule.specs.Stamp.{Stamp, heard, silent, _≼_, in-order, last, _≼*_, after, From-to, within, unheard-of, unheard-in}
 use Rattle.rule.specs.Pulse.{tile-P, tile-pulse}
 use Rattle.rule.specs.Promises.{P-monotone, P-shifts, One-free, own-free, neighbour-free, Envelope}
 use Rattle.settings.specs.declared.Settings.{Settings}
@@ -139,14 +139,14 @@ module _ {s : Settings} {ts ts′ : List ℕ} {x y : Call} (r : Accepted s ts x)
 
 -- all predecessors but k are heard from lo to hi
 pub one-free : {w c : ℕ} (wide : 6 ≤ w) (i : c < w) (k : ℕ) → k < w → is-predecessor w c k ≡ true → (lo hi : ℕ) (g : ℕ → Stamp) →
-    Predecessors w c (λ j. (j ≡ k → ⊥) → Within lo hi (g j)) → One-free lo hi (g c) (map g (neighbours w c))
+    Predecessors w c (λ j. (j ≡ k → ⊥) → From-to lo hi (g j)) → One-free lo hi (g c) (map g (neighbours w c))
 unfolding neighbours is-predecessor
 one-free {w} {c} wide i k l p lo hi g e =
     by-equal k c
-    (λ q. own-free (columns-all (are-neighbours w c) (Within lo hi) g w 0
+    (λ q. own-free (columns-all (are-neighbours w c) (From-to lo hi) g w 0
     (λ j a b t. e j (omega arith) (beside w c j t) (λ u. self j t (u ∙ q)))))
     (λ q. neighbour-free (e c i (own w c c refl) (λ u. q (sym u)))
-    (columns-but-one (are-neighbours w c) (Within lo hi) g k w 0 (omega arith) (omega arith) (other q)
+    (columns-but-one (are-neighbours w c) (From-to lo hi) g k w 0 (omega arith) (omega arith) (other q)
     (λ j a b t u. e j (omega arith) (beside w c j t) u)))
   where
     self : (j : ℕ) → are-neighbours w c j ≡ true → j ≡ c → ⊥
@@ -191,7 +191,7 @@ module _ {s : Settings} {ts ts′ : List ℕ} {x y : Call} (r : Accepted s ts x)
   clock : ℕ → ℕ
   clock t = reads (getD (x .drifts) c 0) 0 t
 
-  first-within : (j : ℕ) → j < s .width → is-predecessor (s .width) c j ≡ true → Near s ts ts′ x y c B e j → Within (clock low) (clock high) (stamp (s .width) ts x c j)
+  first-within : (j : ℕ) → j < s .width → is-predecessor (s .width) c j ≡ true → Near s ts ts′ x y c B e j → From-to (clock low) (clock high) (stamp (s .width) ts x c j)
   unfolding clock low
   first-within j m t n =
       let v = r .delay c j i m t (n .correct) in
@@ -203,7 +203,7 @@ module _ {s : Settings} {ts ts′ : List ℕ} {x y : Call} (r : Accepted s ts x)
       (reads-mono (getD (x .drifts) c 0) 0 {a = getD ts j 0 + a} {b = high} (omega (arith, n .above, n .below))))
 
   second-within : (j : ℕ) → j < s .width → is-predecessor (s .width) c j ≡ true → Near s ts ts′ x y c B e j →
-      Within (clock (low - e)) (clock (high + e)) (stamp (s .width) ts′ y c j)
+      From-to (clock (low - e)) (clock (high + e)) (stamp (s .width) ts′ y c j)
   unfolding clock low
   second-within j m t n =
       let v = r .delay c j i m t (n .correct) in

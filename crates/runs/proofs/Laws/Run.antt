@@ -12,7 +12,7 @@ use Rattle.admission.specs.Call.{Call}
 use Rattle.pulse.specs.Pulse.{pulse}
 use Rattle.row.specs.Row.{row-of}
 use Rattle.admission.specs.Refusal.{row-refusal}
-use Rattle.runs.specs.Run.{taken, rows, call-at, row-at}
+use Rattle.runs.specs.Run.{accepted-calls, rows, call-at, row-at}
 use Rattle.columns.proofs.Laws.Lists.{table-at}
 use Rattle.admission.proofs.Laws.Accepted.{accepted}
 
@@ -49,8 +49,8 @@ one-more {s} {ts} {r} {x} {xs} {rs} e w run = record { as-many = ap suc (run .as
     writes (suc l) i = rw (row-after ts r rs (suc l), row-after ts r rs l) (unfold call-at in run .writes l (omega arith))
 
 -- "A call turned away changes nothing and counts for no row."
-pub run-of : (s : Settings) (xs : List Call) (ts : List ℕ) → Run s ts (taken s xs ts) (rows s xs ts)
-unfolding taken rows
+pub run-of : (s : Settings) (xs : List Call) (ts : List ℕ) → Run s ts (accepted-calls s xs ts) (rows s xs ts)
+unfolding accepted-calls rows
 run-of s [] ts = no-run s ts
 run-of s (x ∷ xs) ts =
     by-equal (row-refusal s ts x) 0

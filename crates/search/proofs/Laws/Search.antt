@@ -11,9 +11,9 @@ use Rattle.settings.proofs.Laws.Cases.{by-equal}
 use Rattle.steps.specs.Number.{start-number, row-number}
 use Rattle.steps.specs.Shown.{number-shown}
 use Rattle.steps.specs.Step.{Stepped, stepped as left, away, step-of}
-use Rattle.steps.specs.Take.{takes, Taking, next-row}
-use Rattle.steps.specs.declared.Taken.{Taken}
-use Rattle.steps.specs.declared.Taken.the-variants as take
+use Rattle.steps.specs.Take.{both-fit, Takes, next-row}
+use Rattle.steps.specs.declared.Answer.{Answer}
+use Rattle.steps.specs.declared.Answer.the-variants as take
 use Rattle.stages.specs.Fit.{due-size, due-of, width-of}
 use Rattle.stages.specs.declared.Wall.{Wall}
 use Rattle.stages.specs.declared.Wall.the-variants.{New, Start, Row, End, Over}
@@ -35,11 +35,11 @@ use Rattle.range.proofs.Laws.File.{from, part-told, one-step}
 use Rattle.file.proofs.Laws.Steps.{part-enough}
 
 -- a wall that stands takes its step, with rows of its width
-pub never-unfit : {x : Wall} {part row held next : List ℕ} {answer : Taken} → Stands x → length row ≡ width-of x → length held ≡ width-of x →
-    Taking x part row held answer next → answer ≡ take.Unfit → ⊥
-unfolding takes
+pub never-unfit : {x : Wall} {part row held next : List ℕ} {answer : Answer} → Stands x → length row ≡ width-of x → length held ≡ width-of x →
+    Takes x part row held answer next → answer ≡ take.Unfit → ⊥
+unfolding both-fit
 never-unfit {x} {part} {row} {held} i n m k e =
-    let fits : takes x (length row) (length held) ≡ true = rw (n, m, stands-fits x i) in
+    let fits : both-fit x (length row) (length held) ≡ true = rw (n, m, stands-fits x i) in
     true≢false (sym fits ∙ unfit-step k e)
 
 -- a row that is written is that of the step, unless the wall is then over

@@ -1,34 +1,34 @@
 -- `step` meets its contract. Assumes nothing.
-use Rattle.steps.proofs.Laws.Fit.{takes-both}
-use Rattle.steps.proofs.Laws.Taken.{Took-step, took-step}
+use Rattle.steps.proofs.Laws.Fit.{fit-both}
+use Rattle.steps.proofs.Laws.Taken.{Taken-step, taken-step}
 use Rattle.search.proofs.Laws.Search.{never-unfit, step-told}
 use borrow.Author.Needs.{needs}
 use Rattle.search.proofs.step.Statement.{statement}
 use Rattle.search.proofs.step.Tie as tie
 
 -- the wall's step, and the start of the function
-abbrev take : tie.After-took → tie.After-take
+abbrev take : tie.After-taken → tie.After-take
 take c = c .before .before .before .before
 
 abbrev start : tie.After-take → tie.Start
 start c = c .before .before .before .before .before .before .before .before
 
-taken : (c : tie.After-took) →
+taken : (c : tie.After-taken) →
     let a = start (take c) .args in
-    Took-step (a .wall) (a .part .now) (a .row .now) (a .next .now) (c .took .given .0 .0) (take c .take .last .1 .1 .1 .0)
-taken c = took-step (take c .take .ensures) (c .took .given .1)
+    Taken-step (a .wall) (a .part .now) (a .row .now) (a .next .now) (c .taken .given .0 .0) (take c .take .last .1 .1 .1 .0)
+taken c = taken-step (take c .take .ensures) (c .taken .given .1)
 
 take-requires : tie.Need-take-requires
 take-requires c κs = search needs
 
-enum-known-took : tie.Need-enum-known-took
-enum-known-took c = search needs
+enum-known-taken : tie.Need-enum-known-taken
+enum-known-taken c = search needs
 
 tell-requires : tie.Need-tell-requires
 tell-requires c κs =
     let t = c .before .before .before in
     let k = taken t in
-    (takes-both _ _ _ (k .fits) .0, k .is, start (take t) .pre .0 .1)
+    (fit-both _ _ _ (k .fits) .0, k .is, start (take t) .pre .0 .1)
 
 copy-requires : tie.Need-copy-requires
 copy-requires c κs = search needs
@@ -70,7 +70,7 @@ step-spec =
     tie.close
     (tie.spec
     take-requires
-    enum-known-took
+    enum-known-taken
     tell-requires
     copy-requires
     enum-told

@@ -15,9 +15,9 @@ use Rattle.show.specs.Text.{texts-of}
 use Rattle.steps.specs.Shown.{row-shown, number-shown, offset-shown}
 use Rattle.stages.specs.Fit.{place-fits, wall-fits}
 use Rattle.steps.specs.Step.{step-of}
-use Rattle.steps.specs.Take.{took, took-of}
+use Rattle.steps.specs.Take.{taken, taken-of}
 use Rattle.stages.specs.declared.Place.{Place}
-use Rattle.steps.specs.declared.Took.{Took}
+use Rattle.steps.specs.declared.Taken.{Taken}
 use Rattle.stages.specs.declared.Wall.{Wall}
 use Rattle.stages.specs.declared.Wall.the-variants.{Start, Row, End}
 use Rattle.stages.proofs.Laws.{Fit, fit-of}
@@ -31,13 +31,13 @@ abbrev start : tie.After-slice-known2 → tie.Start
 start c = c .before .before .before .before .before
 
 -- the number and the offset are the step's
-number : (s : tie.Start) → let a = s .args in a .took .number ≡ number-shown (step-of (a .wall) (a .row .now) (a .part .now) .shows)
-unfolding took-of took
-number s = ap (λ (t : Took). t .number) (s .pre .1 .0)
+number : (s : tie.Start) → let a = s .args in a .taken .number ≡ number-shown (step-of (a .wall) (a .row .now) (a .part .now) .shows)
+unfolding taken-of taken
+number s = ap (λ (t : Taken). t .number) (s .pre .1 .0)
 
-offset : (s : tie.Start) → let a = s .args in a .took .offset ≡ offset-shown (step-of (a .wall) (a .row .now) (a .part .now) .shows)
-unfolding took-of took
-offset s = ap (λ (t : Took). t .offset) (s .pre .1 .0)
+offset : (s : tie.Start) → let a = s .args in a .taken .offset ≡ offset-shown (step-of (a .wall) (a .row .now) (a .part .now) .shows)
+unfolding taken-of taken
+offset s = ap (λ (t : Taken). t .offset) (s .pre .1 .0)
 
 taken : (c : tie.Else1) → let a = start (c .before) .args in number-shown (step-of (a .wall) (a .row .now) (a .part .now) .shows) ≡ 0
 taken c = sym (number (start (c .before))) ∙ c .if1 .left
@@ -83,7 +83,7 @@ returns c =
     let a = s .args in
     let k = away-shows (a .wall) (a .row .now) (a .part .now) (λ z. t .if1 .taken (number s ∙ z)) in (
       wrote-as (f .refused-line .ensures)
-          (ap (λ (n : ℕ). refused-line n (a .took .offset)) (number s) ∙ ap (refused-line (number-shown (step-of (a .wall) (a .row .now) (a .part .now) .shows))) (offset s) ∙ sym (k .text)),
+          (ap (λ (n : ℕ). refused-line n (a .taken .offset)) (number s) ∙ ap (refused-line (number-shown (step-of (a .wall) (a .row .now) (a .part .now) .shows))) (offset s) ∙ sym (k .text)),
       sym (k .kept),
     )
 

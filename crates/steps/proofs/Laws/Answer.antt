@@ -12,8 +12,8 @@ use Rattle.steps.specs.Answer.{number-due, offset-due, wall-then, row-th
 use Rattle.steps.specs.Shown.{no-marks, number-shown, offset-shown}
 use Rattle.contents.specs.Contents.{marks-in}
 use Rattle.steps.specs.Step.{stepped, away, step-of}
-use Rattle.steps.specs.Take.{took, took-of, row-left, next-row}
-use Rattle.steps.proofs.Laws.Taken.{settings-away, settings-goes, start-away, start-goes, row-away, row-goes, end-away, end-goes, no-number, took-away, left-away, took-on, left-on}
+use Rattle.steps.specs.Take.{taken, taken-of, row-left, next-row}
+use Rattle.steps.proofs.Laws.Taken.{settings-away, settings-goes, start-away, start-goes, row-away, row-goes, end-away, end-goes, no-number, taken-away, left-away, taken-on, left-on}
 
 module _ (row bs : List ℕ) where
   pub step-goes : (x : Wall) → number-due x row bs ≡ 0 → step-of x row bs ≡ stepped (wall-then x bs) (row-then x row bs row) (shown-then x row bs)
@@ -48,11 +48,11 @@ module _ (row bs : List ℕ) where
   no-refusal Over = (refl, refl)
 
   -- the answer's values
-  pub took-goes : (x : Wall) → number-due x row bs ≡ 0 → took-of (step-of x row bs) ≡ took (wall-then x bs) 0 0
-  took-goes x e = ap took-of (step-goes x e) ∙ took-on _ row (wall-then x bs) (shown-then x row bs) (no-refusal x .0) (no-refusal x .1)
+  pub taken-goes : (x : Wall) → number-due x row bs ≡ 0 → taken-of (step-of x row bs) ≡ taken (wall-then x bs) 0 0
+  taken-goes x e = ap taken-of (step-goes x e) ∙ taken-on _ row (wall-then x bs) (shown-then x row bs) (no-refusal x .0) (no-refusal x .1)
 
-  pub took-gone : (x : Wall) → (number-due x row bs ≡ 0 → ⊥) → took-of (step-of x row bs) ≡ took Over (number-due x row bs) (offset-due x bs)
-  took-gone x k = ap took-of (step-away x k) ∙ took-away row row _ _
+  pub taken-gone : (x : Wall) → (number-due x row bs ≡ 0 → ⊥) → taken-of (step-of x row bs) ≡ taken Over (number-due x row bs) (offset-due x bs)
+  taken-gone x k = ap taken-of (step-away x k) ∙ taken-away row row _ _
 
   -- and the row that is written
   module _ (held : List ℕ) where

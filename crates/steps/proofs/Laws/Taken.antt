@@ -19,11 +19,11 @@ use Rattle.steps.specs.Shown.{Shown, row-shown, no-marks, number-shown, 
 use Rattle.steps.specs.Number.{settings-number, start-number, row-number, row-offset}
 use Rattle.stages.specs.Fit.{place}
 use Rattle.steps.specs.Step.{stepped, away, settings-step, start-step, after-row, row-step, end-step, step-of}
-use Rattle.steps.specs.Take.{took, took-of, row-left, next-row, takes, take-of, row-after, Taking}
+use Rattle.steps.specs.Take.{taken, taken-of, row-left, next-row, both-fit, answer-of, row-after, Takes}
 use Rattle.stages.specs.declared.Wall.{Wall}
-use Rattle.steps.specs.declared.Took.{Took}
 use Rattle.steps.specs.declared.Taken.{Taken}
-use Rattle.steps.specs.declared.Taken.the-variants as take
+use Rattle.steps.specs.declared.Answer.{Answer}
+use Rattle.steps.specs.declared.Answer.the-variants as take
 use Rattle.fields.proofs.Laws.Field.{else-first, else-other}
 use Rattle.stages.specs.declared.Wall.the-variants.{Start, Row, Over}
 
@@ -103,17 +103,17 @@ module _ (s : Settings) (row bs : List ℕ) (n : ℕ) (e : n ≡ field-refusal 3
 
 -- what is answered of a step that is turned away, and of one that is taken
 module _ (row held : List ℕ) where
-  pub took-away : (n at : ℕ) → took-of (away row n at) ≡ took Over n at
-  unfolding took-of away stepped number-shown offset-shown
-  took-away n at = refl
+  pub taken-away : (n at : ℕ) → taken-of (away row n at) ≡ taken Over n at
+  unfolding taken-of away stepped number-shown offset-shown
+  taken-away n at = refl
 
   pub left-away : (n at : ℕ) → (n ≡ 0 → ⊥) → row-left (away row n at) held ≡ held
   unfolding row-left away stepped number-shown
   left-away n at k = rw (ne-eqb n 0 k)
 
-  pub took-on : (x : Wall) (xs : List Shown) → number-shown xs ≡ 0 → offset-shown xs ≡ 0 → took-of (stepped x row xs) ≡ took x 0 0
-  unfolding took-of stepped
-  took-on x xs n o = rw (n, o)
+  pub taken-on : (x : Wall) (xs : List Shown) → number-shown xs ≡ 0 → offset-shown xs ≡ 0 → taken-of (stepped x row xs) ≡ taken x 0 0
+  unfolding taken-of stepped
+  taken-on x xs n o = rw (n, o)
 
   pub left-on : (x : Wall) (xs : List Shown) → number-shown xs ≡ 0 → row-left (stepped x row xs) held ≡ row
   unfolding row-left stepped
@@ -144,41 +144,41 @@ module _ (s : Settings) where
 
 -- what the operation answers, where both rows fit and where not
 module _ (x : Wall) (part row held : List ℕ) where
-  pub unfit : takes x (length row) (length held) ≡ false → Taking x part row held take.Unfit held
-  unfolding take-of row-after
+  pub unfit : both-fit x (length row) (length held) ≡ false → Takes x part row held take.Unfit held
+  unfolding answer-of row-after
   unfit e = record { answered = rw e; written = rw e }
 
-  pub taking : {t : Took} {next : List ℕ} (y : Wall) → x ≡ y → takes x (length row) (length held) ≡ true → t ≡ took-of (step-of y row part) →
-      next ≡ next-row y row part held → Taking x part row held (take.Took t) next
-  unfolding take-of row-after
-  taking y w e t n = record { answered = rw (e, w) (ap take.Took t); written = rw (e, w) n }
+  pub taking : {t : Taken} {next : List ℕ} (y : Wall) → x ≡ y → both-fit x (length row) (length held) ≡ true → t ≡ taken-of (step-of y row part) →
+      next ≡ next-row y row part held → Takes x part row held (take.Taken t) next
+  unfolding answer-of row-after
+  taking y w e t n = record { answered = rw (e, w) (ap take.Taken t); written = rw (e, w) n }
 
 -- and what is known by the answer
-pub record Took-step (x : Wall) (part row held : List ℕ) (t : Took) (next : List ℕ) : Type 0 where
-  pub fits : takes x (length row) (length held) ≡ true
-  pub is : t ≡ took-of (step-of x row part)
+pub record Taken-step (x : Wall) (part row held : List ℕ) (t : Taken) (next : List ℕ) : Type 0 where
+  pub fits : both-fit x (length row) (length held) ≡ true
+  pub is : t ≡ taken-of (step-of x row part)
   pub written : next ≡ next-row x row part held
 
-module _ {x : Wall} {part row held next : List ℕ} {answer : Taken} (k : Taking x part row held answer next) where
-  pub took-step : {t : Took} → answer ≡ take.Took t → Took-step x part row held t next
-  unfolding take-of row-after
-  took-step {t} e = go (takes x (length row) (length held)) refl (k .answered) (k .written)
+module _ {x : Wall} {part row held next : List ℕ} {answer : Answer} (k : Takes x part row held answer next) where
+  pub taken-step : {t : Taken} → answer ≡ take.Taken t → Taken-step x part row held t next
+  unfolding answer-of row-after
+  taken-step {t} e = go (both-fit x (length row) (length held)) refl (k .answered) (k .written)
     where
-      go : (b : Bool) → takes x (length row) (length held) ≡ b → answer ≡ cond b (take.Took (took-of (step-of x row part))) take.Unfit →
-          next ≡ cond b (next-row x row part held) held → Took-step x part row held t next
+      go : (b : Bool) → both-fit x (length row) (length held) ≡ b → answer ≡ cond b (take.Taken (taken-of (step-of x row part))) take.Unfit →
+          next ≡ cond b (next-row x row part held) held → Taken-step x part row held t next
       go true f a w =
-          let same : take.Took t ≡ take.Took (took-of (step-of x row part)) = sym e ∙ a in record { fits = f; is = cc; written = w }
+          let same : take.Taken t ≡ take.Taken (taken-of (step-of x row part)) = sym e ∙ a in record { fits = f; is = cc; written = w }
       go false f a w =
-          let same : take.Took t ≡ take.Unfit = sym e ∙ a in
+          let same : take.Taken t ≡ take.Unfit = sym e ∙ a in
           let never : _≡_ {A = ℕ} 0 1 = cc in absurd (let g : ⊥ = omega arith in g)
 
-  pub unfit-step : answer ≡ take.Unfit → takes x (length row) (length held) ≡ false
-  unfolding take-of
-  unfit-step e = go (takes x (length row) (length held)) refl (k .answered)
+  pub unfit-step : answer ≡ take.Unfit → both-fit x (length row) (length held) ≡ false
+  unfolding answer-of
+  unfit-step e = go (both-fit x (length row) (length held)) refl (k .answered)
     where
-      go : (b : Bool) → takes x (length row) (length held) ≡ b → answer ≡ cond b (take.Took (took-of (step-of x row part))) take.Unfit →
-          takes x (length row) (length held) ≡ false
+      go : (b : Bool) → both-fit x (length row) (length held) ≡ b → answer ≡ cond b (take.Taken (taken-of (step-of x row part))) take.Unfit →
+          both-fit x (length row) (length held) ≡ false
       go false f a = f
       go true f a =
-          let same : take.Took (took-of (step-of x row part)) ≡ take.Unfit = sym a ∙ e in
+          let same : take.Taken (taken-of (step-of x row part)) ≡ take.Unfit = sym a ∙ e in
           let never : _≡_ {A = ℕ} 0 1 = cc in absurd (let g : ⊥ = omega arith in g)

@@ -6,7 +6,7 @@ use lib.ListN.{length}
 use Rattle.steps.specs.Step.{stepped, step-of}
 use Rattle.steps.specs.Shown.{number-shown, offset-shown}
 use Rattle.stages.specs.Fit.{wall-fits}
-use Rattle.steps.specs.Take.{took-of, next-row, takes}
+use Rattle.steps.specs.Take.{taken-of, next-row, both-fit}
 use Rattle.stages.specs.declared.Wall.{Wall}
 use Rattle.stages.specs.declared.Wall.the-variants.{New, Over}
 use Rattle.steps.proofs.Laws.Taken.{unfit, taking}
@@ -24,15 +24,15 @@ row-fits c = sym (c .before .fits2 .ensures) ∙ not-false _ (c .if1 .left)
 next-fits : (c : tie.Else2) → let a = start (c .before .before .before) .args in wall-fits (a .wall) (length (a .next .now)) ≡ true
 next-fits c = sym (c .before .fits3 .ensures) ∙ not-false _ (c .if2 .left)
 
-both : (c : tie.Else2) → let a = start (c .before .before .before) .args in takes (a .wall) (length (a .row .now)) (length (a .next .now)) ≡ true
-unfolding takes
+both : (c : tie.Else2) → let a = start (c .before .before .before) .args in both-fit (a .wall) (length (a .row .now)) (length (a .next .now)) ≡ true
+unfolding both-fit
 both c = rw (row-fits (c .before .before), next-fits c)
 
 fits-requires : tie.Need-fits-requires
 fits-requires c κs = search needs
 
 returns : tie.Need-returns
-unfolding takes
+unfolding both-fit
 returns c =
     let a = start (c .before) .args in
     unfit (a .wall) (a .part .now) (a .row .now) (a .next .now) (rw (sym (c .before .fits2 .ensures) ∙ not-true _ (c .if1 .taken)))
@@ -41,7 +41,7 @@ fits-requires-2 : tie.Need-fits-requires-2
 fits-requires-2 c κs = search needs
 
 returns-2 : tie.Need-returns-2
-unfolding takes
+unfolding both-fit
 returns-2 c =
     let e = c .before .before in
     let a = start (e .before) .args in
@@ -134,7 +134,7 @@ returns-6 c =
     taking (a .wall) (a .part .now) (a .row .now) (a .next .now) _ (w .wall3 .given .1) (both e) (c .end .ensures (a .row .now)) refl
 
 returns-7 : tie.Need-returns-7
-unfolding step-of next-row took-of stepped number-shown offset-shown
+unfolding step-of next-row taken-of stepped number-shown offset-shown
 returns-7 c =
     let t = c .before in
     let e = t .before .before in

@@ -11,7 +11,7 @@ use Rattle.stages.specs.declared.Wall.the-variants.{Over}
 use Rattle.file.specs.Stands.{Stands, steps-left}
 use Rattle.file.proofs.Laws.Stands.{Ahead}
 use Rattle.window.specs.Window.{bytes-in, lacking}
-use Rattle.stream.specs.Run.{Brought, Step, brings, Turns, begins, reads, ends, steps, Ran}
+use Rattle.stream.specs.Run.{Brought, Kind, brings, Turns, begins, reads, ends, steps, Ran}
 use Rattle.stream.specs.State.{Starts, to-hand, Made-ready, stepped, Advanced, Standing, finished, Ends}
 use Rattle.stream.specs.Promises.{Turn-right}
 use Rattle.stream.specs.declared.State.{State}
@@ -21,7 +21,7 @@ use Rattle.stream.specs.declared.Outcome.{Outcome}
 use Rattle.stream.proofs.Laws.State.{starts-between, ready-between, rest-left, left-within, wrote-within}
 use Rattle.stream.proofs.Laws.Held.{enough-held}
 
-module _ {K : Type 0} (step : Step K) (first : K) where
+module _ {K : Type 0} (step : Kind K) (first : K) where
   pub begun : (s : State) (input times output : List ℕ) → Starts s → Standing step first s first input times output
   unfolding bytes-in
   begun s input times output b =

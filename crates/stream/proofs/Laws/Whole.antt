@@ -10,13 +10,13 @@ use Rattle.stages.specs.Fit.{due-of, width-of}
 use Rattle.stages.specs.declared.Wall.{Wall}
 use Rattle.stages.specs.declared.Wall.the-variants.{New, Over}
 use Rattle.file.specs.Stands.{Stands}
-use Rattle.stream.specs.Run.{Step, brings, Turns, begins, reads, ends, steps}
+use Rattle.stream.specs.Run.{Kind, brings, Turns, begins, reads, ends, steps}
 use Rattle.stream.specs.State.{Ends}
 use Rattle.stream.specs.Promises.{Run-right}
 use Rattle.stream.proofs.Laws.Held.{held-part}
 
 -- `from` is what is told from a wall on; `one` says that a step tells its part of it, and leaves the rest to be told from its wall on
-module _ {K : Type 0} (step : Step K) (first : K) (from : Wall → K → (row rest : List ℕ) → List ℕ)
+module _ {K : Type 0} (step : Kind K) (first : K) (from : Wall → K → (row rest : List ℕ) → List ℕ)
     (stands : (x : Wall) (k : K) (ts part : List ℕ) → Stands x → Stands (step x k ts part .wall))
     (one : (x : Wall) (k : K) (ts us bs : List ℕ) → Stands x →
     ((brings step x k ts bs .wall ≡ Over → ⊥) → take (width-of x) us ≡ brings step x k ts bs .row) →

@@ -6,9 +6,9 @@ use native.Mathlib.Omega.{arith}
 use lib.ListN.{length, getD, set, length-set}
 use lib.Seq.{getD-set-same, getD-set-other}
 use Rattle.settings.proofs.Laws.Cases.{by-equal}
-use Rattle.tables.specs.Word.{pair, triple, spaced, word-of, Holds, Kept, Filled, Tables}
+use Rattle.tables.specs.Word.{pair, triple, spaced, word-of, Holds, Kept, Table-part, Tables}
 
-pub filled-none : (a : List ℕ) (at : ℕ) (f : ℕ → ℕ) → Filled a a at 0 f
+pub filled-none : (a : List ℕ) (at : ℕ) (f : ℕ → ℕ) → Table-part a a at 0 f
 unfolding Kept Holds
 filled-none a at f = record { as-long = refl; kept = λ k i. refl; holds = λ k i. let never : ⊥ = omega arith in absurd never }
 
@@ -19,7 +19,7 @@ holds-more t at k v f h i e j l =
     (λ d. ap (λ (n : ℕ). getD (set t (at + k) v) (at + n) 0) d ∙ getD-set-same t (at + k) v 0 i ∙ e ∙ ap f (sym d))
     (λ d. getD-set-other t (at + k) (at + j) v 0 (omega arith) ∙ h j (omega arith))
 
-pub filled-more : {a t : List ℕ} (at k v : ℕ) (f : ℕ → ℕ) → Filled a t at k f → at + k < length a → v ≡ f k → Filled a (set t (at + k) v) at (k + 1) f
+pub filled-more : {a t : List ℕ} (at k v : ℕ) (f : ℕ → ℕ) → Table-part a t at k f → at + k < length a → v ≡ f k → Table-part a (set t (at + k) v) at (k + 1) f
 unfolding Kept
 filled-more {a} {t} at k v f h i e =
     record {
@@ -28,7 +28,7 @@ filled-more {a} {t} at k v f h i e =
       holds = holds-more t at k v f (h .holds) (omega (arith, h .as-long)) e;
     }
 
-pub filled-all : {a t : List ℕ} (at k n : ℕ) (f : ℕ → ℕ) → Filled a t at k f → k ≡ n → Filled a t at n f
+pub filled-all : {a t : List ℕ} (at k n : ℕ) (f : ℕ → ℕ) → Table-part a t at k f → k ≡ n → Table-part a t at n f
 filled-all at k n f h e = rw e at h
 
 pub kept-kept : (a b c : List ℕ) (m n : ℕ) → Kept a b m → Kept b c n → m ≤ n → Kept a c m
@@ -45,27 +45,27 @@ unfolding Holds
 holds-first t n f h k i = let same : k ≡ 0 + k = omega arith in ap (λ (j : ℕ). getD t j 0) same ∙ h k i
 
 -- what stood in front of what is filled, and what an earlier part holds
-pub made-of : {a b : List ℕ} {at n : ℕ} {f : ℕ → ℕ} → Filled a b at n f → (place m : ℕ) (g : ℕ → ℕ) → Holds a place m g → place + m ≤ at → (j : ℕ) → j < m →
+pub made-of : {a b : List ℕ} {at n : ℕ} {f : ℕ → ℕ} → Table-part a b at n f → (place m : ℕ) (g : ℕ → ℕ) → Holds a place m g → place + m ≤ at → (j : ℕ) → j < m →
     getD b (place + j) 0 ≡ g j
 unfolding Kept Holds
 made-of h place m g p i j l = h .kept (place + j) (omega arith) ∙ p j l
 
-pub made-of-first : {a b : List ℕ} {at n : ℕ} {f : ℕ → ℕ} → Filled a b at n f → (m : ℕ) (g : ℕ → ℕ) → Holds a 0 m g → m ≤ at → (j : ℕ) → j < m → getD b j 0 ≡ g j
+pub made-of-first : {a b : List ℕ} {at n : ℕ} {f : ℕ → ℕ} → Table-part a b at n f → (m : ℕ) (g : ℕ → ℕ) → Holds a 0 m g → m ≤ at → (j : ℕ) → j < m → getD b j 0 ≡ g j
 unfolding Kept
 made-of-first {a} h m g p i j l = h .kept j (omega arith) ∙ holds-first a m g p j l
 
 -- the tables, part by part
 module _ {t₀ t₁ t₂ t₃ t₄ t₅ t₆ t₇ t₈ t₉ t : List ℕ} (long : length t₀ ≡ 9616)
-    (h₀ : Filled t₀ t₁ 0 256 (λ k. pair 16 k * 1))
-    (h₁ : Filled t₁ t₂ 256 256 (λ k. pair 16 k * 281474976710656))
-    (h₂ : Filled t₂ t₃ 512 100 (λ k. pair 10 k * 1))
-    (h₃ : Filled t₃ t₄ 612 100 (λ k. pair 10 k * 65536))
-    (h₄ : Filled t₄ t₅ 712 100 (λ k. pair 10 k * 4294967296))
-    (h₅ : Filled t₅ t₆ 812 100 (λ k. pair 10 k * 281474976710656))
-    (h₆ : Filled t₆ t₇ 912 256 (λ k. word-of (spaced k)))
-    (h₇ : Filled t₇ t₈ 1168 256 (λ k. length (spaced k)))
-    (h₈ : Filled t₈ t₉ 1424 4096 triple)
-    (h₉ : Filled t₉ t 5520 4096 (λ k. triple k * 16777216)) where
+    (h₀ : Table-part t₀ t₁ 0 256 (λ k. pair 16 k * 1))
+    (h₁ : Table-part t₁ t₂ 256 256 (λ k. pair 16 k * 281474976710656))
+    (h₂ : Table-part t₂ t₃ 512 100 (λ k. pair 10 k * 1))
+    (h₃ : Table-part t₃ t₄ 612 100 (λ k. pair 10 k * 65536))
+    (h₄ : Table-part t₄ t₅ 712 100 (λ k. pair 10 k * 4294967296))
+    (h₅ : Table-part t₅ t₆ 812 100 (λ k. pair 10 k * 281474976710656))
+    (h₆ : Table-part t₆ t₇ 912 256 (λ k. word-of (spaced k)))
+    (h₇ : Table-part t₇ t₈ 1168 256 (λ k. length (spaced k)))
+    (h₈ : Table-part t₈ t₉ 1424 4096 triple)
+    (h₉ : Table-part t₉ t 5520 4096 (λ k. triple k * 16777216)) where
   kept-9 : Kept t₉ t 5520
   kept-9 = h₉ .kept
 
@@ -107,8 +107,8 @@ module _ {t₀ t₁ t₂ t₃ t₄ t₅ t₆ t₇ t₈ t₉ t : List ℕ} (long 
 
 -- the first pairs as they were filled, when the triples are made of them
 module _ {t₀ t₁ t₂ t₃ t₄ t₅ t₆ t₇ t₈ : List ℕ} {g₂ g₃ g₄ g₅ g₆ g₇ g₈ : ℕ → ℕ}
-    (h₁ : Filled t₀ t₁ 0 256 (λ k. pair 16 k * 1)) (h₂ : Filled t₁ t₂ 256 256 g₂) (h₃ : Filled t₂ t₃ 512 100 g₃) (h₄ : Filled t₃ t₄ 612 100 g₄)
-    (h₅ : Filled t₄ t₅ 712 100 g₅) (h₆ : Filled t₅ t₆ 812 100 g₆) (h₇ : Filled t₆ t₇ 912 256 g₇) (h₈ : Filled t₇ t₈ 1168 256 g₈) where
+    (h₁ : Table-part t₀ t₁ 0 256 (λ k. pair 16 k * 1)) (h₂ : Table-part t₁ t₂ 256 256 g₂) (h₃ : Table-part t₂ t₃ 512 100 g₃) (h₄ : Table-part t₃ t₄ 612 100 g₄)
+    (h₅ : Table-part t₄ t₅ 712 100 g₅) (h₆ : Table-part t₅ t₆ 812 100 g₆) (h₇ : Table-part t₆ t₇ 912 256 g₇) (h₈ : Table-part t₇ t₈ 1168 256 g₈) where
   pub first-pairs : Holds t₈ 0 256 (λ k. pair 16 k * 1)
   first-pairs =
       let k₇ = kept-kept t₆ t₇ t₈ 912 1168 (h₇ .kept) (h₈ .kept) (omega arith) in

@@ -1,13 +1,13 @@
 -- `columns` meets its contract. The loop's invariant: the places passed are filled. Assumes nothing.
 use Prim.Native.Nat.{ℕ, _-_, _≤_}
 use native.Mathlib.Omega.{arith}
-use Rattle.tables.specs.Word.{word-of, spaced, Filled}
+use Rattle.tables.specs.Word.{word-of, spaced, Table-part}
 use Rattle.tables.proofs.Laws.Table.{filled-none, filled-more, filled-all}
 use Rattle.tables.proofs.columns.Statement.{statement}
 use Rattle.tables.proofs.columns.Tie as tie
 
 abbrev Inv-loop : tie.InvT-loop
-Inv-loop table₀ k₀ table k = (k ≤ 256) × Filled table₀ table 912 k (λ (n : ℕ). word-of (spaced n))
+Inv-loop table₀ k₀ table k = (k ≤ 256) × Table-part table₀ table 912 k (λ (n : ℕ). word-of (spaced n))
 
 abbrev μ-loop : tie.MeasureT-loop
 μ-loop table₀ k₀ table k = 256 - k

@@ -4,14 +4,14 @@ use Prim.Native.Nat.{ℕ, _+_, _-_, _*_, _/_, _≤_}
 use lib.ListN.{getD}
 use native.Mathlib.Omega.{arith}
 use Rattle.lines.specs.Number.{glyph}
-use Rattle.tables.specs.Word.{pair, triple, Filled}
+use Rattle.tables.specs.Word.{pair, triple, Table-part}
 use Rattle.tables.proofs.Laws.Table.{filled-none, filled-more, filled-all, made-of-first}
 use Rattle.tables.proofs.Laws.Pairs.{hexadecimal-pair-small}
 use Rattle.tables.proofs.first_triples.Statement.{statement}
 use Rattle.tables.proofs.first_triples.Tie as tie
 
 abbrev Inv-loop : tie.InvT-loop
-Inv-loop table₀ k₀ table k = (k ≤ 4096) × Filled table₀ table 1424 k triple
+Inv-loop table₀ k₀ table k = (k ≤ 4096) × Table-part table₀ table 1424 k triple
 
 abbrev μ-loop : tie.MeasureT-loop
 μ-loop table₀ k₀ table k = 4096 - k

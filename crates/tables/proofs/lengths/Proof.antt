@@ -2,13 +2,13 @@
 use Prim.Native.Nat.{ℕ, _-_, _≤_}
 use lib.ListN.{length}
 use native.Mathlib.Omega.{arith}
-use Rattle.tables.specs.Word.{spaced, Filled}
+use Rattle.tables.specs.Word.{spaced, Table-part}
 use Rattle.tables.proofs.Laws.Table.{filled-none, filled-more, filled-all}
 use Rattle.tables.proofs.lengths.Statement.{statement}
 use Rattle.tables.proofs.lengths.Tie as tie
 
 abbrev Inv-loop : tie.InvT-loop
-Inv-loop table₀ k₀ table k = (k ≤ 256) × Filled table₀ table 1168 k (λ (n : ℕ). length (spaced n))
+Inv-loop table₀ k₀ table k = (k ≤ 256) × Table-part table₀ table 1168 k (λ (n : ℕ). length (spaced n))
 
 abbrev μ-loop : tie.MeasureT-loop
 μ-loop table₀ k₀ table k = 256 - k

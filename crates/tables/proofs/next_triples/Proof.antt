@@ -3,14 +3,14 @@ use mathlib.Core.Path.{ap}
 use Prim.Native.Nat.{ℕ, _+_, _-_, _*_, _≤_}
 use lib.ListN.{getD}
 use native.Mathlib.Omega.{arith}
-use Rattle.tables.specs.Word.{triple, Filled}
+use Rattle.tables.specs.Word.{triple, Table-part}
 use Rattle.tables.proofs.Laws.Table.{filled-none, filled-more, filled-all, made-of}
 use Rattle.tables.proofs.Laws.Pairs.{triple-small}
 use Rattle.tables.proofs.next_triples.Statement.{statement}
 use Rattle.tables.proofs.next_triples.Tie as tie
 
 abbrev Inv-loop : tie.InvT-loop
-Inv-loop table₀ k₀ table k = (k ≤ 4096) × Filled table₀ table 5520 k (λ (n : ℕ). triple n * 16777216)
+Inv-loop table₀ k₀ table k = (k ≤ 4096) × Table-part table₀ table 5520 k (λ (n : ℕ). triple n * 16777216)
 
 abbrev μ-loop : tie.MeasureT-loop
 μ-loop table₀ k₀ table k = 4096 - k

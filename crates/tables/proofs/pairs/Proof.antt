@@ -4,13 +4,13 @@ use Prim.Native.Nat.{ℕ, _+_, _-_, _*_, _≤_}
 use native.Mathlib.Nat.{mul-le-mul, div-lt-iff-lt-mul, mod-lt}
 use native.Mathlib.Omega.{arith}
 use Rattle.lines.specs.Number.{glyph}
-use Rattle.tables.specs.Word.{pair, Filled}
+use Rattle.tables.specs.Word.{pair, Table-part}
 use Rattle.tables.proofs.Laws.Table.{filled-none, filled-more, filled-all}
 use Rattle.tables.proofs.pairs.Statement.{statement}
 use Rattle.tables.proofs.pairs.Tie as tie
 
 abbrev Inv-loop : tie.InvT-loop
-Inv-loop base place table₀ at count k₀ table k = (k ≤ base * base) × Filled table₀ table at k (λ (n : ℕ). pair base n * place)
+Inv-loop base place table₀ at count k₀ table k = (k ≤ base * base) × Table-part table₀ table at k (λ (n : ℕ). pair base n * place)
 
 abbrev μ-loop : tie.MeasureT-loop
 μ-loop base place table₀ at count k₀ table k = base * base - k

@@ -14,8 +14,8 @@ use Rattle.fields.specs.Field.{body}
 use Rattle.steps.specs.Shown.{number-shown, offset-shown}
 use Rattle.stages.specs.Fit.{place-fits, wall-fits}
 use Rattle.steps.specs.Step.{step-of}
-use Rattle.steps.specs.Take.{took, took-of}
-use Rattle.steps.specs.declared.Took.{Took}
+use Rattle.steps.specs.Take.{taken, taken-of}
+use Rattle.steps.specs.declared.Taken.{Taken}
 use Rattle.stages.specs.declared.Wall.{Wall}
 use Rattle.stages.proofs.Laws.{fit-of}
 use Rattle.show.proofs.Laws.{row-there}
@@ -35,17 +35,17 @@ begin c = start (c .before .before .before)
 
 -- what was taken is the step's
 module _ (s : tie.Start) where
-  number : s .args .took .number ≡ number-shown (step-of (s .args .wall) (s .args .row .now) (s .args .part .now) .shows)
-  unfolding took-of took
-  number = ap (λ (t : Took). t .number) (s .pre .1)
+  number : s .args .taken .number ≡ number-shown (step-of (s .args .wall) (s .args .row .now) (s .args .part .now) .shows)
+  unfolding taken-of taken
+  number = ap (λ (t : Taken). t .number) (s .pre .1)
 
-  offset : s .args .took .offset ≡ offset-shown (step-of (s .args .wall) (s .args .row .now) (s .args .part .now) .shows)
-  unfolding took-of took
-  offset = ap (λ (t : Took). t .offset) (s .pre .1)
+  offset : s .args .taken .offset ≡ offset-shown (step-of (s .args .wall) (s .args .row .now) (s .args .part .now) .shows)
+  unfolding taken-of taken
+  offset = ap (λ (t : Taken). t .offset) (s .pre .1)
 
-  next : s .args .took .wall ≡ step-of (s .args .wall) (s .args .row .now) (s .args .part .now) .next
-  unfolding took-of took
-  next = ap (λ (t : Took). t .wall) (s .pre .1)
+  next : s .args .taken .wall ≡ step-of (s .args .wall) (s .args .row .now) (s .args .part .now) .next
+  unfolding taken-of taken
+  next = ap (λ (t : Taken). t .wall) (s .pre .1)
 
 taken : (c : tie.Else1) → let a = start (c .before) .args in number-shown (step-of (a .wall) (a .row .now) (a .part .now) .shows) ≡ 0
 taken c = sym (number (start (c .before))) ∙ c .if1 .left
@@ -55,14 +55,14 @@ on : (c : tie.Else1) {x : Wall} →
     let a = start (c .before) .args in
     a .wall ≡ x →
     telling (take 16 (a .asked .now)) (a .wall) (a .largest) (a .row .now) (a .part .now)
-    ≡ step-says (take 16 (a .asked .now)) x (a .took .wall) (a .largest) (a .row .now) (a .part .now)
+    ≡ step-says (take 16 (a .asked .now)) x (a .taken .wall) (a .largest) (a .row .now) (a .part .now)
 on c e =
     let s = start (c .before) in
     let a = s .args in
     let asked = take 16 (a .asked .now) in
     told-on asked (a .wall) (a .largest) (a .row .now) (a .part .now) (taken c)
     ∙ ap (λ (y : Wall). step-says asked (a .wall) y (a .largest) (a .row .now) (a .part .now)) (sym (next s))
-    ∙ ap (λ (x : Wall). step-says asked x (a .took .wall) (a .largest) (a .row .now) (a .part .now)) e
+    ∙ ap (λ (x : Wall). step-says asked x (a .taken .wall) (a .largest) (a .row .now) (a .part .now)) e
 
 -- the row fits its place
 fits : (c : tie.After-wall) → place-fits (c .wall .given .0 .0) (length (begin c .args .row .now)) ≡ true
@@ -101,10 +101,10 @@ returns c =
     let s = start (t .before) in
     let a = s .args in
     let o = step-of (a .wall) (a .row .now) (a .part .now) in
-    said (a .took .wall) (a .largest)
+    said (a .taken .wall) (a .largest)
     (told-away _ (a .wall) (a .largest) (a .row .now) (a .part .now) (λ z. t .if1 .taken (number s ∙ z))
     ∙ ap (λ (x : Wall). says x (a .largest) (refused-line (number-shown (o .shows)) (offset-shown (o .shows)))) (sym (next s)))
-    (wrote-as (f .refused-line .ensures) (ap (λ (n : ℕ). refused-line n (a .took .offset)) (number s) ∙ ap (refused-line (number-shown (o .shows))) (offset s)))
+    (wrote-as (f .refused-line .ensures) (ap (λ (n : ℕ). refused-line n (a .taken .offset)) (number s) ∙ ap (refused-line (number-shown (o .shows))) (offset s)))
 
 enum-told : tie.Need-enum-told
 enum-told c = search needs
@@ -159,14 +159,14 @@ unfolding step-says
 returns-2 c =
     let e = c .before .before in
     let a = start (e .before) .args in
-    said (a .took .wall) (a .largest) (on e (c .enum-told .given .1)) (wrote-none (a .out .now) (a .at))
+    said (a .taken .wall) (a .largest) (on e (c .enum-told .given .1)) (wrote-none (a .out .now) (a .at))
 
 returns-3 : tie.Need-returns-3
 unfolding step-says
 returns-3 c =
     let e = c .before .before in
     let a = start (e .before) .args in
-    said (a .took .wall) (a .largest) (on e (c .enum-told2 .given .1)) (wrote-none (a .out .now) (a .at))
+    said (a .taken .wall) (a .largest) (on e (c .enum-told2 .given .1)) (wrote-none (a .out .now) (a .at))
 
 same-length-2 : tie.Need-same-length-2
 same-length-2 c = search needs
@@ -179,7 +179,7 @@ returns-4 c =
     let a = begin w .args in
     let p = w .wall .given .0 .0 in
     let asked = take 16 (a .asked .now) in
-    let same = ap (λ (ms : List ℕ). row-says asked p (a .took .wall) (a .largest) ms (a .row .now)) (marks w) ∙ sym (on (w .before .before) (w .wall .given .1)) in
+    let same = ap (λ (ms : List ℕ). row-says asked p (a .taken .wall) (a .largest) ms (a .row .now)) (marks w) ∙ sym (on (w .before .before) (w .wall .given .1)) in
     subst (λ (t : Telling). Said t (f .row-told .result) (a .out .now) (a .at) (f .row-told .last .1 .1 .1 .1 .1 .1 .0)) same (f .row-told .ensures)
 
 same-length-3 : tie.Need-same-length-3
@@ -192,14 +192,14 @@ returns-5 c =
     let w = l .before .before .before .before in
     let e = w .before .before in
     let a = start (e .before) .args in
-    said (a .took .wall) (a .largest) (on e (w .enum-told3 .given .1)) (l .line .ensures .0)
+    said (a .taken .wall) (a .largest) (on e (w .enum-told3 .given .1)) (l .line .ensures .0)
 
 returns-6 : tie.Need-returns-6
 unfolding step-says
 returns-6 c =
     let e = c .before .before in
     let a = start (e .before) .args in
-    said (a .took .wall) (a .largest) (on e (c .enum-told4 .given .1)) (wrote-none (a .out .now) (a .at))
+    said (a .taken .wall) (a .largest) (on e (c .enum-told4 .given .1)) (wrote-none (a .out .now) (a .at))
 
 pub tell-spec : {M : Type 1} → statement M
 tell-spec =

@@ -11,7 +11,7 @@ use Rattle.admission.specs.Call.{Call, call}
 use Rattle.pulse.specs.Pulse.{pulse}
 use Rattle.columns.specs.Marks.{mark-bytes}
 use Rattle.columns.specs.Plain.{Plain}
-use Rattle.row.specs.Progress.{Filled}
+use Rattle.row.specs.Progress.{Filled-with-ends}
 use Rattle.admission.proofs.Laws.Accepted.{Accepted, accepted}
 use Rattle.pulse.proofs.Laws.Plain.{plain-tile, plain-pulse}
 use Rattle.row.proofs.Laws.Table.{one-more}
@@ -20,7 +20,7 @@ use Rattle.row.proofs.progress.further.Tie as tie
 
 abbrev Inv-loop : tie.InvT-loop
 Inv-loop settings step before marks drifts links times₀ first so-far₀ times so-far =
-    Filled (pulse settings before (call marks drifts links (settings .width))) times₀ times (so-far .earliest) (so-far .latest) (so-far .next)
+    Filled-with-ends (pulse settings before (call marks drifts links (settings .width))) times₀ times (so-far .earliest) (so-far .latest) (so-far .next)
     × (first ≤ so-far .next)
     × (so-far .next ≤ first + 8)
 
@@ -89,7 +89,7 @@ returns c =
     let a = s .args in
     let w = c .with .ensures in
     let f = pulse (a .settings) (a .before .now) (lent s) in (
-      subst (λ (n : ℕ). Filled f (a .times .now) (set (a .times .now) (a .done .next) (p .pulse .result)) (c .with .result .earliest) (c .with .result .latest) n) (sym (w .0))
+      subst (λ (n : ℕ). Filled-with-ends f (a .times .now) (set (a .times .now) (a .done .next) (p .pulse .result)) (c .with .result .earliest) (c .with .result .latest) n) (sym (w .0))
           (one-more (s .pre .1) (omega (arith, z .here, z .times)) (p .pulse .ensures) (w .1) (w .2)),
       omega (arith, w .0),
     )
@@ -168,7 +168,7 @@ loop-again c =
     let i = in-row t in
     let w = c .with2 .ensures in
     let f = pulse (a .settings) (a .before .now) (lent s) in (
-      subst (λ (n : ℕ). Filled f (a .times .now) (set (l .loop .times) (column t) (p .correct .result)) (c .with2 .result .earliest) (c .with2 .result .latest) n) (sym (w .0))
+      subst (λ (n : ℕ). Filled-with-ends f (a .times .now) (set (l .loop .times) (column t) (p .correct .result)) (c .with2 .result .earliest) (c .with2 .result .latest) n) (sym (w .0))
           (one-more (l .loop .inv .0) (omega (arith, i .in-row, sizes s .times))
           (plain-pulse (ok s) (i .plain) (column t) (i .from) (i .to) (a .step) (s .pre .0 .1) (p .correct .ensures)) (w .1) (w .2)),
       omega (arith, w .0, i .from),

@@ -9,12 +9,12 @@ use Rattle.columns.specs.Marks.{mark-bytes}
 use Rattle.fields.specs.Field.{field-refusal}
 use Rattle.contents.specs.Contents.{marks-field, row-size, marks-in}
 use Rattle.steps.specs.Step.{Stepped, after-row}
-use Rattle.steps.specs.Take.{took, took-of, row-left}
+use Rattle.steps.specs.Take.{taken, taken-of, row-left}
 use Rattle.stages.specs.declared.Wall.{Wall}
 use Rattle.contents.proofs.Laws.Contents.{row-small}
 use Rattle.row_fields.proofs.Laws.{worked-away, worked-row}
 use Rattle.stages.proofs.Laws.{Fit, fit-of}
-use Rattle.steps.proofs.Laws.Taken.{row-away, row-goes, number-of-marks, offset-of-marks, number-of-row, offset-of-row, took-away, took-on, left-away, left-on, no-number}
+use Rattle.steps.proofs.Laws.Taken.{row-away, row-goes, number-of-marks, offset-of-marks, number-of-row, offset-of-row, taken-away, taken-on, left-away, left-on, no-number}
 use borrow.Author.Needs.{needs}
 use Rattle.steps.proofs.row_step.row.Statement.{statement}
 use Rattle.steps.proofs.row_step.row.Tie as tie
@@ -56,7 +56,7 @@ returns c =
     let e = row-away (a .row .now) (a .part .now) (a .place .settings) (a .place .offset) (a .place .row) n (a .place .offset)
     (number-of-marks (a .place .settings) (a .row .now) (a .part .now) n field (t .if1 .taken)) (t .if1 .taken)
     (offset-of-marks (a .place .settings) (a .row .now) (a .part .now) n field (t .if1 .taken) (a .place .offset)) in (
-      c .refused .ensures ∙ sym (ap took-of e ∙ took-away (a .row .now) (a .row .now) n (a .place .offset)),
+      c .refused .ensures ∙ sym (ap taken-of e ∙ taken-away (a .row .now) (a .row .now) n (a .place .offset)),
       sym (ap (λ (o : Stepped). row-left o (a .next .now)) e ∙ left-away (a .row .now) (a .next .now) n (a .place .offset) (t .if1 .taken)),
     )
 
@@ -95,7 +95,7 @@ returns-2 c =
     let e = row-away (a .row .now) (a .part .now) (a .place .settings) (a .place .offset) (a .place .row) n _
     (p .plan .ensures .answered ∙ sym (number-of-row (a .place .settings) (a .row .now) (a .part .now) (there b))) (t .if2 .taken)
     (ap (λ (n : ℕ). a .place .offset + (3 + (n + 7) / 8)) (fit s .long) ∙ sym (offset-of-row (a .place .settings) (a .row .now) (a .part .now) (there b) (a .place .offset))) in (
-      c .refused2 .ensures ∙ sym (ap took-of e ∙ took-away (a .row .now) (a .row .now) n _),
+      c .refused2 .ensures ∙ sym (ap taken-of e ∙ taken-away (a .row .now) (a .row .now) n _),
       worked-away (p .plan .ensures) (t .if2 .taken) ∙ sym (ap (λ (o : Stepped). row-left o (a .next .now)) e ∙ left-away (a .row .now) (a .next .now) n _ (t .if2 .taken)),
     )
 
@@ -134,7 +134,7 @@ returns-3 c =
     let next =
     (rw add-one at (f .after .ensures))
     ∙ ap (λ (n : ℕ). after-row k (suc (a .place .row)) (a .place .offset + n)) (z .size .ensures ∙ ap row-size w) in (
-      c .went-on .ensures ∙ ap (λ (x : Wall). took x 0 0) next ∙ sym (ap took-of e ∙ took-on _ (a .next .now) _ _ (n .0) (n .1)),
+      c .went-on .ensures ∙ ap (λ (x : Wall). taken x 0 0) next ∙ sym (ap taken-of e ∙ taken-on _ (a .next .now) _ _ (n .0) (n .1)),
       worked-row (p .plan .ensures) (t .if2 .left) ∙ sym (ap (λ (o : Stepped). row-left o (a .next .now)) e ∙ left-on _ (a .next .now) _ _ (n .0)),
     )
 

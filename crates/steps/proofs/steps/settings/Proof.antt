@@ -8,10 +8,10 @@ use Rattle.steps.specs.Shown.{number-shown, offset-shown}
 use Rattle.stages.specs.Fit.{place}
 use Rattle.fields.specs.Field.{field-refusal, body}
 use Rattle.contents.specs.Contents.{settings-in}
-use Rattle.steps.specs.Take.{took-of}
+use Rattle.steps.specs.Take.{taken-of}
 use Rattle.fields.proofs.Laws.Field.{else-first, else-other}
 use Rattle.contents.proofs.Laws.Contents.{body-length}
-use Rattle.steps.proofs.Laws.Taken.{settings-away, settings-goes, took-away, took-on, passed-of, refused-of}
+use Rattle.steps.proofs.Laws.Taken.{settings-away, settings-goes, taken-away, taken-on, passed-of, refused-of}
 use borrow.Author.Needs.{needs}
 use Rattle.steps.proofs.steps.settings.Statement.{statement}
 use Rattle.steps.proofs.steps.settings.Tie as tie
@@ -44,7 +44,7 @@ returns c row =
     let bs = t .before .before .before .args .part .now in
     let n = t .before .refusal .result in
     c .refused .ensures
-    ∙ sym (ap took-of (settings-away row bs n (number-of-field bs n (t .before .refusal .ensures) (t .if1 .taken)) (t .if1 .taken)) ∙ took-away row row n 0)
+    ∙ sym (ap taken-of (settings-away row bs n (number-of-field bs n (t .before .refusal .ensures) (t .if1 .taken)) (t .if1 .taken)) ∙ taken-away row row n 0)
 
 body-requires : tie.Need-body-requires
 body-requires c κs = search needs
@@ -73,7 +73,7 @@ returns-2 c row =
     let bs = b .before .before .before .before .args .part .now in
     let p = passed-of (settings-in (body 24 bs)) (sym (m .made .given .1) ∙ made-of (m .before .before)) in
     c .went-on .ensures
-    ∙ sym (ap took-of (settings-goes row bs (number-of-contents bs (there (b .before)) ∙ p .1)) ∙ took-on row row _ [] refl refl ∙ rw (← p .0))
+    ∙ sym (ap taken-of (settings-goes row bs (number-of-contents bs (there (b .before)) ∙ p .1)) ∙ taken-on row row _ [] refl refl ∙ rw (← p .0))
 
 returns-3 : tie.Need-returns-3
 returns-3 c row =
@@ -82,7 +82,7 @@ returns-3 c row =
     let bs = b .before .before .before .before .args .part .now in
     let p = refused-of (settings-in (body 24 bs)) (sym (m .made2 .given .1) ∙ made-of (m .before .before)) in
     c .refused2 .ensures
-    ∙ sym (ap took-of (settings-away row bs _ (p .0 ∙ sym (number-of-contents bs (there (b .before)))) (p .1)) ∙ took-away row row _ 0)
+    ∙ sym (ap taken-of (settings-away row bs _ (p .0 ∙ sym (number-of-contents bs (there (b .before)))) (p .1)) ∙ taken-away row row _ 0)
 
 pub settings-spec : {M : Type 1} → statement M
 settings-spec =

@@ -10,12 +10,12 @@ use Rattle.steps.specs.Number.{start-number}
 use Rattle.steps.specs.Shown.{number-shown, offset-shown}
 use Rattle.steps.specs.Step.{Stepped}
 use Rattle.stages.specs.Fit.{place}
-use Rattle.steps.specs.Take.{took, took-of, row-left}
+use Rattle.steps.specs.Take.{taken, taken-of, row-left}
 use Rattle.stages.specs.declared.Wall.the-variants.{Row}
 use Rattle.fields.proofs.Laws.Field.{else-none}
 use Rattle.contents.proofs.Laws.Contents.{body-length}
 use Rattle.stages.proofs.Laws.{Fit, fit-of}
-use Rattle.steps.proofs.Laws.Taken.{start-away, start-goes, took-away, took-on, left-away, left-on}
+use Rattle.steps.proofs.Laws.Taken.{start-away, start-goes, taken-away, taken-on, left-away, left-on}
 use borrow.Author.Needs.{needs}
 use Rattle.steps.proofs.steps.start.Statement.{statement}
 use Rattle.steps.proofs.steps.start.Tie as tie
@@ -46,7 +46,7 @@ returns c =
     let a = t .before .before .before .before .args in
     let n = t .before .start-number .result in
     let e : (row : _) → _ = λ row. start-away row (a .part .now) (a .place .settings) (a .place .offset) n (t .before .start-number .ensures) (t .if1 .taken) in (
-      λ row. c .refused .ensures ∙ sym (ap took-of (e row) ∙ took-away row row n (a .place .offset)),
+      λ row. c .refused .ensures ∙ sym (ap taken-of (e row) ∙ taken-away row row n (a .place .offset)),
       λ row. sym (ap (λ (o : Stepped). row-left o (a .next .now)) (e row) ∙ left-away row (a .next .now) n (a .place .offset) (t .if1 .taken)),
     )
 
@@ -89,7 +89,7 @@ returns-2 c =
     let a = s .args in
     let w = fit s .long in
     let e : (row : _) → _ = λ row. start-goes row (a .part .now) (a .place .settings) (a .place .offset) (sym (n .before .start-number .ensures) ∙ n .if1 .left) in (
-      λ row. c .went-on .ensures ∙ ap (λ (n : ℕ). took (Row (place (a .place .settings) 0 (a .place .offset + (3 + 8 * n)))) 0 0) w ∙ sym (ap took-of (e row) ∙ took-on _ (a .next .now) _ [] refl refl),
+      λ row. c .went-on .ensures ∙ ap (λ (n : ℕ). taken (Row (place (a .place .settings) 0 (a .place .offset + (3 + 8 * n)))) 0 0) w ∙ sym (ap taken-of (e row) ∙ taken-on _ (a .next .now) _ [] refl refl),
       λ row. rw (← w, ← b .body .ensures) (t .times .ensures) ∙ sym (ap (λ (o : Stepped). row-left o (a .next .now)) (e row) ∙ left-on _ (a .next .now) _ [] refl),
     )
 

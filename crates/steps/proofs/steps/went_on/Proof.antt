@@ -1,11 +1,11 @@
 -- `steps::went_on` meets its contract. Assumes nothing.
 use mathlib.Core.Path.{refl}
-use Rattle.steps.specs.Take.{took}
+use Rattle.steps.specs.Take.{taken}
 use Rattle.steps.proofs.steps.went_on.Statement.{statement}
 use Rattle.steps.proofs.steps.went_on.Tie as tie
 
 returns : tie.Need-returns
-unfolding took
+unfolding taken
 returns c = refl
 
 pub went-on-spec : {M : Type 1} → statement M

@@ -12,7 +12,7 @@ use Rattle.columns.proofs.Laws.Lists.{table-length}
 use Rattle.steps.specs.Number.{settings-number, start-number, row-number}
 use Rattle.stages.specs.Fit.{place, passes, width-of, wall-fits}
 use Rattle.steps.specs.Step.{stepped, away, after-row, step-of}
-use Rattle.file.specs.Program.{Reached, new, lend, next}
+use Rattle.file.specs.Program.{Left, new, lend, next}
 use Rattle.file.specs.Stands.{Stands}
 use Rattle.stages.specs.declared.Place.{Place}
 use Rattle.stages.specs.declared.Wall.{Wall}
@@ -55,7 +55,7 @@ step-long (End p) row bs =
     (λ k. rw (end-away row bs (p .settings) (p .offset) (p .row) k) tt)
 step-long Over row bs = tt
 
-kept : {x : Wall} {row : List ℕ} → Reached x row → Stands x × Long x row
+kept : {x : Wall} {row : List ℕ} → Left x row → Stands x × Long x row
 unfolding Stands
 kept (new row) = (tt, tt)
 kept (lend held r) = (kept r .0, tt)
@@ -65,10 +65,10 @@ kept (next {x} {row} part f r) = (step-stands x row part (kept r .0), step-long 
 fits-long : (x : Wall) (n : ℕ) → Stands x → n ≡ width-of x → wall-fits x n ≡ true
 fits-long x n i e = rw e (stands-fits x i)
 
-pub reached-fits : (x : Wall) (row : List ℕ) → Reached x row → ((p : Place) → x ≡ Start p → length row ≡ p .settings .width) → wall-fits x (length row) ≡ true
+pub left-fits : (x : Wall) (row : List ℕ) → Left x row → ((p : Place) → x ≡ Start p → length row ≡ p .settings .width) → wall-fits x (length row) ≡ true
 unfolding wall-fits width-of passes Stands
-reached-fits New row r long = refl
-reached-fits (Start p) row r long = let k = kept r .0 in fits-long (Start p) (length row) k (rw (eq-eqb _ _ (k .0 .pass)) (long p refl))
-reached-fits (Row p) row r long = let k = kept r in fits-long (Row p) (length row) (k .0) (rw (eq-eqb _ _ (k .0 .0 .pass)) (k .1))
-reached-fits (End p) row r long = let k = kept r in fits-long (End p) (length row) (k .0) (rw (eq-eqb _ _ (k .0 .pass)) (k .1))
-reached-fits Over row r long = refl
+left-fits New row r long = refl
+left-fits (Start p) row r long = let k = kept r .0 in fits-long (Start p) (length row) k (rw (eq-eqb _ _ (k .0 .pass)) (long p refl))
+left-fits (Row p) row r long = let k = kept r in fits-long (Row p) (length row) (k .0) (rw (eq-eqb _ _ (k .0 .0 .pass)) (k .1))
+left-fits (End p) row r long = let k = kept r in fits-long (End p) (length row) (k .0) (rw (eq-eqb _ _ (k .0 .pass)) (k .1))
+left-fits Over row r long = refl
