@@ -39,8 +39,8 @@ offset : (s : tie.Start) → let a = s .args in a .taken .offset ≡ offset-show
 unfolding taken-of taken
 offset s = ap (λ (t : Taken). t .offset) (s .pre .1 .0)
 
-taken : (c : tie.Else1) → let a = start (c .before) .args in number-shown (step-of (a .wall) (a .row .now) (a .part .now) .shows) ≡ 0
-taken c = sym (number (start (c .before))) ∙ c .if1 .left
+accepted : (c : tie.Else1) → let a = start (c .before) .args in number-shown (step-of (a .wall) (a .row .now) (a .part .now) .shows) ≡ 0
+accepted c = sym (number (start (c .before))) ∙ c .if1 .left
 
 -- the wall's place fits the row
 module _ (s : tie.Start) where
@@ -100,7 +100,7 @@ copy-requires c κs =
     let s = start (e .before) in
     let a = s .args in
     let r = s .pre .1 .1 in
-    let z = taken e in
+    let z = accepted e in
     let f = fit s (start-fits s (w .enum-told2 .given .1)) in
     (ap length (r .is ∙ start-next (a .row .now) (a .part .now) z (w .enum-told2 .given .1) (r .held)) ∙ start-shows (a .row .now) (a .part .now) z (w .enum-told2 .given .1) .1 ∙ sym (f .long), narrow s f)
 
@@ -123,7 +123,7 @@ lines-requires c κs =
     let a = s .args in
     let g = row-fits s (w .wall .given .1) in
     let f = fit s g in
-    (s .pre .0 .0, g, ap length (marks s f (b .body .ensures)) ∙ row-marks (a .row .now) (a .part .now) (taken e) (w .wall .given .1) ∙ ap mark-bytes (sym (f .long)), s .pre .0 .2)
+    (s .pre .0 .0, g, ap length (marks s f (b .body .ensures)) ∙ row-marks (a .row .now) (a .part .now) (accepted e) (w .wall .given .1) ∙ ap mark-bytes (sym (f .long)), s .pre .0 .2)
 
 copy-requires-2 : tie.Need-copy-requires-2
 copy-requires-2 c κs =
@@ -132,7 +132,7 @@ copy-requires-2 c κs =
     let s = start (e .before) in
     let a = s .args in
     let r = s .pre .1 .1 in
-    let z = taken e in
+    let z = accepted e in
     let f = fit s (row-fits s (w .wall .given .1)) in
     (ap length (r .is ∙ row-next (a .row .now) (a .part .now) z (w .wall .given .1) (r .held)) ∙ row-shows (a .row .now) (a .part .now) z (w .wall .given .1) .1 ∙ sym (f .long), narrow s f)
 
@@ -152,7 +152,7 @@ returns-2 : tie.Need-returns-2
 returns-2 c =
     let e = c .before .before in
     let a = start (e .before) .args in
-    let k = new-shows (a .row .now) (a .part .now) (taken e) (c .enum-told .given .1) in
+    let k = new-shows (a .row .now) (a .part .now) (accepted e) (c .enum-told .given .1) in
     (wrote-as (wrote-none (a .out .now) (a .at)) (sym (k .0)), sym (k .1))
 
 same-length-2 : tie.Need-same-length-2
@@ -166,7 +166,7 @@ returns-3 c =
     let s = start (e .before) in
     let a = s .args in
     let r = s .pre .1 .1 in
-    let z = taken e in (
+    let z = accepted e in (
       wrote-as (wrote-none (a .out .now) (a .at)) (sym (start-shows (a .row .now) (a .part .now) z (w .enum-told2 .given .1) .0)),
       f .copy .ensures ∙ r .is ∙ start-next (a .row .now) (a .part .now) z (w .enum-told2 .given .1) (r .held),
     )
@@ -188,7 +188,7 @@ returns-4 c =
     let s = start (e .before) in
     let a = s .args in
     let r = s .pre .1 .1 in
-    let z = taken e in
+    let z = accepted e in
     let g = fit s (row-fits s (w .wall .given .1)) in
     let p = w .wall .given .0 .0 in (
       wrote-as (l .lines .ensures)
@@ -209,14 +209,14 @@ returns-5 c =
     let w = f .before .before .before .before in
     let e = w .before .before in
     let a = start (e .before) .args in
-    let k = end-shows (a .row .now) (a .part .now) (taken e) (w .wall2 .given .1) in
+    let k = end-shows (a .row .now) (a .part .now) (accepted e) (w .wall2 .given .1) in
     (wrote-as (f .last-lines .ensures) (sym (k .0)), sym (k .1))
 
 returns-6 : tie.Need-returns-6
 returns-6 c =
     let e = c .before .before in
     let a = start (e .before) .args in
-    let k = over-shows (a .row .now) (a .part .now) (taken e) (c .enum-told3 .given .1) in
+    let k = over-shows (a .row .now) (a .part .now) (accepted e) (c .enum-told3 .given .1) in
     (wrote-as (wrote-none (a .out .now) (a .at)) (sym (k .0)), sym (k .1))
 
 pub show-spec : {M : Type 1} → statement M

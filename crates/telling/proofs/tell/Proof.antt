@@ -47,8 +47,8 @@ module _ (s : tie.Start) where
   unfolding taken-of taken
   next = ap (λ (t : Taken). t .wall) (s .pre .1)
 
-taken : (c : tie.Else1) → let a = start (c .before) .args in number-shown (step-of (a .wall) (a .row .now) (a .part .now) .shows) ≡ 0
-taken c = sym (number (start (c .before))) ∙ c .if1 .left
+accepted : (c : tie.Else1) → let a = start (c .before) .args in number-shown (step-of (a .wall) (a .row .now) (a .part .now) .shows) ≡ 0
+accepted c = sym (number (start (c .before))) ∙ c .if1 .left
 
 -- what is told of a step that is taken, by its wall
 on : (c : tie.Else1) {x : Wall} →
@@ -60,7 +60,7 @@ on c e =
     let s = start (c .before) in
     let a = s .args in
     let asked = take 16 (a .asked .now) in
-    told-on asked (a .wall) (a .largest) (a .row .now) (a .part .now) (taken c)
+    told-on asked (a .wall) (a .largest) (a .row .now) (a .part .now) (accepted c)
     ∙ ap (λ (y : Wall). step-says asked (a .wall) y (a .largest) (a .row .now) (a .part .now)) (sym (next s))
     ∙ ap (λ (x : Wall). step-says asked x (a .taken .wall) (a .largest) (a .row .now) (a .part .now)) e
 
@@ -74,7 +74,7 @@ there : (c : tie.After-wall) → let a = begin c .args in 3 + (length (a .row .n
 unfolding mark-bytes
 there c =
     let a = begin c .args in
-    rw (fit-of _ _ (fits c) .long) (row-there (a .row .now) (a .part .now) (taken (c .before .before)) (c .wall .given .1))
+    rw (fit-of _ _ (fits c) .long) (row-there (a .row .now) (a .part .now) (accepted (c .before .before)) (c .wall .given .1))
 
 marks : (c : tie.After-wall) →
     let a = begin c .args in

@@ -15,11 +15,11 @@ use Rattle.wall.proofs.step_in.Tie as tie
 abbrev start : tie.After-take-in → tie.Start
 start c = c .before .before .before .before .before .before .before .before .before .before
 
-abbrev taken : tie.After-taken → tie.After-take-in
-taken c = c .before .before .before .before .before .before
+abbrev call : tie.After-taken → tie.After-take-in
+call c = c .before .before .before .before .before .before
 
-step : (c : tie.After-taken) → let a = start (taken c) .args in Taken-step (a .wall) (a .part .now) (a .row .now) (a .next .now) (c .taken .given .0 .0) (taken c .take-in .last .1 .1 .1 .1 .0)
-step c = taken-step (taken c .take-in .ensures) (c .taken .given .1)
+step : (c : tie.After-taken) → let a = start (call c) .args in Taken-step (a .wall) (a .part .now) (a .row .now) (a .next .now) (c .taken .given .0 .0) (call c .take-in .last .1 .1 .1 .1 .0)
+step c = taken-step (call c .take-in .ensures) (c .taken .given .1)
 
 take-in-requires : tie.Need-take-in-requires
 take-in-requires c κs = search needs
@@ -30,7 +30,7 @@ enum-known-taken c = search needs
 show-requires : tie.Need-show-requires
 show-requires c κs =
     let t = c .before .before .before .before in
-    let s = start (taken t) in
+    let s = start (call t) in
     let k = step t in
     ((s .pre .0, fit-both _ _ _ (k .fits) .0, s .pre .3), (k .is, record { held = s .args .next .now; is = k .written }))
 
@@ -54,10 +54,10 @@ unfolding taken-of taken
 returns c =
     let f = c .before .before .before .before in
     let t = f .before .before .before .before .before in
-    let a = start (taken t) .args in
+    let a = start (call t) .args in
     let k = step t in
     went (a .wall) (a .part .now) (a .row .now) (a .out .now) (a .at)
-    (by-wall (a .wall) (length (a .row .now)) (length (a .out .now)) (a .at) (start (taken t) .pre .3) ∙ fit-both _ _ _ (k .fits) .0)
+    (by-wall (a .wall) (length (a .row .now)) (length (a .out .now)) (a .at) (start (call t) .pre .3) ∙ fit-both _ _ _ (k .fits) .0)
     (ap (λ (u : Taken). u .wall) (k .is)) (f .show .ensures .0) (f .show .ensures .1)
 
 same-length-5 : tie.Need-same-length-5
