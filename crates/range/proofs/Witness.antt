@@ -35,9 +35,9 @@ use Rattle.file.specs.Cases.{put, printed-file}
 use Rattle.file.specs.File.{rows-shown, start-shown, shown}
 use Rattle.file.specs.Limits.{settings-of, after-settings, start-of, after-start, calls-in, calls-of, rows-of}
 use Rattle.range.specs.Read.{last-number}
-use Rattle.range.specs.Promises.{pulse-of}
+use Rattle.range.specs.Promises.{Two-files, pulse-of, File-range}
 use Rattle.range.specs.Cases.{at-1000, broken-file, Printed-cases, Read-cases}
-use Rattle.range.specs.Witness.{Files-witnessed}
+use Rattle.range.specs.Witness.{Files-witnessed, File-range-met}
 use Rattle.range.proofs.Cases.{printed-cases, read-cases}
 
 -- neither is turned away
@@ -137,20 +137,22 @@ second-pulse : pulse-of broken-file 1 3 ≡ 1464
 unfolding pulse-of rows-of rows row-at printed-file put at-1000 broken-file settings-of after-settings start-of after-start calls-in calls-of settings-number start-number row-number row-offset call-in tiles-in marks-in row-size marks-field links-in links-below tile-links drifts-in tile-place late-start times-in settings-in or-else body field-refusal field-tests big-endian row-of stamp read-at arrival arrives pulse row-refusal row-tests fast crowded late-time stray-mark lengths-right lengths-are call bad-links bad-link bad-value faulty-among mark-bytes marked any-of table-from link link-place place-in links-before predecessors is-predecessor neighbours columns-from are-neighbours tile-pulse tile-P P heard-correction D least-to larger-at stamp-of latest earliest later earlier natural smaller larger first-tick reads settings-refusal settings-tests drift-cost step-of step settings up any-below outside first
 second-pulse = refl
 
+files : Two-files printed-file broken-file 0 3
+files =
+    record {
+      first = first-accepted;
+      second = second-accepted;
+      settings = first-settings ∙ sym second-settings;
+      start = same-start;
+      column = rw first-settings (unfold wall settings in lit< tt);
+      row = rw first-settings (unfold wall settings in lit< tt);
+      alike = rw (first-settings, first-calls, second-calls) (unfold wall settings in alike);
+    }
+
 pub files-witnessed : Files-witnessed
 unfolding Printed-cases Read-cases
-files-witnessed =
-    record {
-      files = record {
-        first = first-accepted;
-        second = second-accepted;
-        settings = first-settings ∙ sym second-settings;
-        start = same-start;
-        column = rw first-settings (unfold wall settings in lit< tt);
-        row = rw first-settings (unfold wall settings in lit< tt);
-        alike = rw (first-settings, first-calls, second-calls) (unfold wall settings in alike);
-      };
-      here = first-pulse;
-      there = second-pulse;
-      range = ap last-number (printed-cases .0) ∙ read-cases .0;
-    }
+files-witnessed = record { files = files; here = first-pulse; there = second-pulse; range = ap last-number (printed-cases .0) ∙ read-cases .0 }
+
+pub file-range-met : File-range-met
+unfolding File-range-met File-range
+file-range-met file-range = file-range (1 ∷ []) printed-file broken-file 0 3 files

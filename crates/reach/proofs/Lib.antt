@@ -1,3 +1,4 @@
 pub mod Laws
 pub mod Promises
 pub mod Cases
+pub mod Witness

@@ -4,3 +4,4 @@ pub mod Survey
 pub mod Answers
 pub mod Promises
 pub mod Cases
+pub mod Witness
