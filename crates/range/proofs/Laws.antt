@@ -3,3 +3,4 @@ pub mod File
 pub mod Whole
 pub mod Read
 pub mod Files
+pub mod Unasked

@@ -15,10 +15,15 @@ use Rattle.file.proofs.Promises.{start-at, rows-place, settings-accepted, start
 use Rattle.search_lines.specs.Text.{largest-word, line-text}
 use Rattle.range.specs.File.{start-told, file-told, search-text}
 use Rattle.range.specs.Read.{last-number}
-use Rattle.range.specs.Promises.{gaps-text, Whole-told, Two-files, pulse-of, File-range}
+use Rattle.range.specs.Promises.{gaps-text, Whole-told, Two-files, pulse-of, File-range, Unasked}
+use Rattle.range.proofs.Laws.Unasked.{unasked-same}
 use Rattle.range.proofs.Laws.Whole.{rows-whole}
 use Rattle.range.proofs.Laws.Read.{last-largest}
 use Rattle.range.proofs.Laws.Files.{first-keeps, all-rows, clean, runs-of-files, reach-small}
+
+pub unasked : Unasked
+unfolding Unasked
+unasked asked file n = unasked-same asked n file
 
 pub whole-told : Whole-told
 unfolding Whole-told search-text file-told start-told settings-of start-of rows-of calls-of after-settings after-start

@@ -4,7 +4,7 @@ use mathlib.Core.Path.{_≡_}
 use mathlib.Core.Bool.{false}
 use mathlib.Core.List.{List, [], _∷_, _++_}
 use Prim.Native.Nat.{ℕ, suc, _≤_, _<_}
-use lib.ListN.{getD, take}
+use lib.ListN.{getD, take, replicate}
 use Rattle.settings.specs.declared.Settings.{Settings}
 use Rattle.columns.specs.Marks.{marked}
 use Rattle.runs.specs.Run.{call-at, row-at}
@@ -31,6 +31,10 @@ Whole-told =
     let s = settings-of file in
     let before-last = take (s .rows) (start-of file ∷ rows-of file) in
     search-text asked file ≡ gaps-text s asked 0 before-last ++ line-text largest-word (largest-of s 0 0 before-last ∷ [])
+
+-- a place that holds 0 asks for no row: of 16 places those that words did not fill change nothing
+unfoldable pub Unasked : Type 0
+Unasked = (asked file : List ℕ) (n : ℕ) → search-text (asked ++ replicate n 0) file ≡ search-text asked file
 
 -- two files that are not turned away, the first without faults, the second with one, of column k in row f, and alike otherwise
 pub record Two-files (a b : List ℕ) (f k : ℕ) : Type 0 where
