@@ -5,7 +5,7 @@ use mathlib.Core.Bool.{true, false}
 use mathlib.Core.List.{List}
 use Prim.Native.Nat.{ℕ, _+_, _-_, _*_, _≤_, _<_}
 use lib.ListN.{length, getD}
-use Rattle.settings.specs.Limits.{Settings-limits}
+use Rattle.settings.specs.Limits.{Limits}
 use Rattle.settings.specs.declared.Settings.{Settings}
 use Rattle.columns.specs.Marks.{marked}
 use Rattle.admission.specs.Call.{Call}
@@ -32,7 +32,7 @@ pub data Link-at (w c k n : ℕ) : Type 0 where
 -- marks, drifts and link values within their limits
 pub record Tile-limits (s : Settings) (marks drifts links : List ℕ) : Type 0 where
   -- no mark past the last column
-  pub no-stray : (k : ℕ) → s .width ≤ k → k < 8 * length marks → marked marks k ≡ false
+  pub no-stray : (k : ℕ) → s .width ≤ k → marked marks k ≡ false
   -- of a tile's predecessors one at most is faulty
   pub one-faulty : (c j k : ℕ) → c < s .width → j < s .width → k < s .width → Hears (s .width) c j → Hears (s .width) c k →
       marked marks j ≡ true → marked marks k ≡ true → j ≡ k
@@ -48,7 +48,7 @@ pub record Tile-limits (s : Settings) (marks drifts links : List ℕ) : Type 0 w
 -- a row call within its limits: W times of the row before, W / 8 rounded up bytes of marks, W drifts, 3W + 2 link values and W times
 -- to be written; a correct tile's time is at most 2^40 - 1
 pub record Row-limits (s : Settings) (before : List ℕ) (x : Call) : Type 0 where
-  pub settings : Settings-limits s
+  pub settings : Limits s
   pub before-long : length before ≡ s .width
   pub marks-long : (s .width ≤ 8 * length (x .marks)) × (8 * length (x .marks) ≤ s .width + 7)
   pub drifts-long : length (x .drifts) ≡ s .width

@@ -155,14 +155,14 @@ accepted-whole file k =
     ∙ rows-accepted s (s .rows) 0 (rows-place file) (start-of file) (after-start file) (k .rows-keep) (first-row file k) (few-rows file k)
 
 pub others-refused : Others-refused
-unfolding Others-refused number-shown Field-plain Settings-plain
+unfolding Others-refused number-shown Field-plain
 others-refused file e =
     by-equal (settings-number file) 0
     (λ p. by-equal (start-at file) 0
     (λ q. let s = settings-of file in
     record {
       settings-there = field-plain 1 24 file .1 (settings-kept file p q .0);
-      settings-within = settings-plain s .1 (settings-kept file p q .1);
+      settings-within = limits s (settings-kept file p q .1);
       start-there = field-plain 2 (8 * s .width) (after-settings file) .1 (start-kept file p q .0);
       start-early = early-kept file p q;
       rows-keep = rows-kept s (s .rows) 0 (rows-place file) (start-of file) (after-start file) (rw (shown-rows file p q) at e) (first-grown file p q)

@@ -2,7 +2,7 @@
 use mathlib.Core.List.{List, [], _∷_, _++_}
 use Prim.Native.Nat.{ℕ, zero, suc, _+_, _*_, _/_, _≤_, _<_}
 use lib.ListN.{getD, drop}
-use Rattle.settings.specs.Limits.{Settings-limits}
+use Rattle.settings.specs.Limits.{Limits}
 use Rattle.settings.specs.declared.Settings.{Settings}
 use Rattle.admission.specs.Call.{Call}
 use Rattle.admission.specs.Limits.{Tile-limits}
@@ -54,7 +54,7 @@ pub data Rows-keep (s : Settings) : (n : ℕ) → (rest : List ℕ) → Type 0 w
 -- 2^39 - 1, and R rows
 pub record Keeps (file : List ℕ) : Type 0 where
   pub settings-there : Field-there 1 24 file
-  pub settings-within : Settings-limits (settings-of file)
+  pub settings-within : Limits (settings-of file)
   pub start-there : Field-there 2 (8 * settings-of file .width) (after-settings file)
   pub start-early : (c : ℕ) → c < settings-of file .width → getD (start-of file) c 0 ≤ 549755813887
   pub rows-keep : Rows-keep (settings-of file) (settings-of file .rows) (after-start file)

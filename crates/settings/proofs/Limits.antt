@@ -5,10 +5,10 @@ use native.Mathlib.Nat.{lt-of-mul-lt-mul-right}
 use native.Mathlib.Omega.{arith}
 use borrow.Author.Tests.{le-ltb}
 use Rattle.settings.specs.Settings.{drift-cost, settings-tests, settings-refusal}
-use Rattle.settings.specs.Limits.{Settings-limits, Settings-plain}
+use Rattle.settings.specs.Limits.{Limits, Settings-plain}
 use Rattle.settings.specs.declared.Settings.{Settings}
 use Rattle.settings.proofs.Laws.Refusal.{skip, end, within}
-use Rattle.settings.proofs.Laws.Rounding.{up-reaches, up-least}
+use Rattle.settings.proofs.Laws.Rounding.{up-least}
 use Rattle.settings.proofs.Laws.Settings.{limits}
 
 -- a number that is enough is no smaller than the one rounded up
@@ -18,7 +18,7 @@ cost-most r a c i =
     let below : drift-cost r a * (1000000 + r) < (c + 1) * (1000000 + r) = omega (arith, i, up-least (r * a) {b = 1000000 + r} (omega arith)) in
     omega (arith, lt-of-mul-lt-mul-right (1000000 + r) below)
 
-kept : (s : Settings) → Settings-limits s → settings-refusal s ≡ 0
+kept : (s : Settings) → Limits s → settings-refusal s ≡ 0
 unfolding settings-refusal settings-tests
 kept s k =
     skip 1 _ (within 6 256 (s .width) (omega (arith, k .width)) (omega (arith, k .width)))
@@ -31,25 +31,6 @@ kept s k =
     ∙ skip 8 _ (le-ltb (s .unit) _ (omega (arith, k .cost, cost-most (s .drift) (s .hold) (k .c) (k .c-enough))))
     ∙ end 9 (le-ltb (s .hold) (16 * s .unit) (omega (arith, k .held)))
 
-limited : (s : Settings) → settings-refusal s ≡ 0 → Settings-limits s
-unfolding drift-cost
-limited s e =
-    let k = limits s e in
-    record {
-      width = omega (arith, k .width);
-      rows = omega (arith, k .rows);
-      delay = omega (arith, k .delay);
-      uncertainty = omega (arith, k .uncertainty);
-      hold = omega (arith, k .hold);
-      drift = omega (arith, k .drift);
-      unit = omega (arith, k .unit);
-      c = drift-cost (s .drift) (s .hold);
-      c-enough = up-reaches (s .drift * s .hold) {b = 1000000 + s .drift} (omega arith);
-      c-least = up-least (s .drift * s .hold) {b = 1000000 + s .drift} (omega arith);
-      cost = omega (arith, k .cost);
-      held = omega (arith, k .held);
-    }
-
 pub settings-plain : Settings-plain
 unfolding Settings-plain
-settings-plain s = (kept s, limited s)
+settings-plain s = (kept s, limits s)

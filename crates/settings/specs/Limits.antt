@@ -6,7 +6,7 @@ use Rattle.settings.specs.Settings.{settings-refusal}
 use Rattle.settings.specs.declared.Settings.{Settings}
 
 -- W, R, d, u, A, r and h within their limits
-pub record Settings-limits (s : Settings) : Type 0 where
+pub record Limits (s : Settings) : Type 0 where
   pub width : (6 ≤ s .width) × (s .width ≤ 256)
   pub rows : (1 ≤ s .rows) × (s .rows ≤ 1024)
   pub delay : (1 ≤ s .delay) × (s .delay ≤ 1000000)
@@ -24,4 +24,4 @@ pub record Settings-limits (s : Settings) : Type 0 where
 
 -- settings keep their limits exactly where they are not turned away
 unfoldable pub Settings-plain : Type 0
-Settings-plain = (s : Settings) → Settings-limits s ↔ (settings-refusal s ≡ 0)
+Settings-plain = (s : Settings) → Limits s ↔ (settings-refusal s ≡ 0)

@@ -46,11 +46,11 @@ lengths-of w ts x e = sized w (length ts) (length (x .marks)) (length (x .drifts
 time-of : (t : ℕ) (m : Bool) → m ≡ false → (not m && ltb latest-time t) ≡ false → t ≤ latest-time
 time-of t m p e = ltb-false latest-time t (rw p at e)
 
-delay-of : (s : Settings) (m : Bool) (v : ℕ) → m ≡ false → bad-value s m v ≡ false → (s .delay - s .uncertainty ≤ v) × (v ≤ s .delay)
+pub delay-of : (s : Settings) (m : Bool) (v : ℕ) → m ≡ false → bad-value s m v ≡ false → (s .delay - s .uncertainty ≤ v) × (v ≤ s .delay)
 unfolding bad-value
 delay-of s m v p e = inside (s .delay - s .uncertainty) (s .delay) v (rw p at e)
 
-arrival-of : (s : Settings) (m : Bool) (v : ℕ) → m ≡ true → bad-value s m v ≡ false → (v ≡ silence → ⊥) → v ≤ latest-time
+pub arrival-of : (s : Settings) (m : Bool) (v : ℕ) → m ≡ true → bad-value s m v ≡ false → (v ≡ silence → ⊥) → v ≤ latest-time
 unfolding bad-value
 arrival-of s m v p e n = ltb-false latest-time v (rw (p, ne-eqb v silence n) at e)
 

@@ -17,7 +17,7 @@ use Rattle.columns.proofs.Laws.Columns.{four-no}
 use Rattle.columns.proofs.Laws.Lists.{by-test}
 use Rattle.columns.proofs.Laws.Window.{digit, digit-most, sender-low, sender-inner, faulty-three, faulty-four}
 
-unmarked : (ms : List ℕ) (k : ℕ) → getD ms (k / 8) 0 ≡ 0 → marked ms k ≡ false
+pub unmarked : (ms : List ℕ) (k : ℕ) → getD ms (k / 8) 0 ≡ 0 → marked ms k ≡ false
 unfolding marked
 unmarked ms k e = rw (e, zero-div (2 ^ (k % 8)))
 

@@ -1,24 +1,21 @@
 -- A row of a file is accepted exactly where it keeps its limits: its lengths are right by its making, and its times are early.
 -- Assumes nothing.
-use mathlib.Core.Path.{_≡_, refl, _∙_}
+use mathlib.Core.Path.{_≡_, refl, sym, _∙_}
 use mathlib.Core.Bool.{true, false, not, and-false}
 use mathlib.Core.List.{List, [], _∷_}
 use Prim.Native.Nat.{ℕ, _+_, _*_, _/_, _≤_, _<_}
 use lib.ListN.{length, getD, drop}
-use native.Mathlib.Omega.{arith}
 use borrow.Author.Tests.{eq-eqb, le-ltb}
 use Rattle.settings.specs.Refusal.{Test, _when_, first, any-below}
-use Rattle.settings.specs.Limits.{Settings-plain}
 use Rattle.settings.specs.Settings.{settings-refusal}
 use Rattle.settings.specs.declared.Settings.{Settings}
-use Rattle.settings.proofs.Limits.{settings-plain}
 use Rattle.settings.proofs.Laws.AnyBelow.{none-till}
+use Rattle.settings.proofs.Laws.Refusal.{skip, end, unhit}
 use Rattle.settings.proofs.Laws.Settings.{limits}
 use Rattle.admission.specs.Call.{Call, call}
 use Rattle.columns.specs.Marks.{marked, mark-bytes}
 use Rattle.admission.specs.Refusal.{lengths-are, lengths-right, stray-mark, late-time, crowded, fast, row-tests, row-refusal}
-use Rattle.admission.specs.Limits.{Row-limits, Row-plain}
-use Rattle.admission.proofs.Limits.{row-plain}
+use Rattle.admission.proofs.Laws.Limits.{None-applies, none-applies, within-limits}
 use Rattle.links.specs.Links.{bad-links}
 use Rattle.fields.specs.Field.{field-refusal}
 use Rattle.fields.specs.Limits.{Field-plain}
@@ -30,8 +27,8 @@ use Rattle.fields.proofs.Laws.Field.{else-none, else-other}
 use Rattle.contents.proofs.Laws.Contents.{marks-length, drifts-length, links-length}
 
 -- the tests that are left: 22, 24, 25 and 26
-abbrev pub tests-left : Settings → Call → List Test
-tests-left s x =
+abbrev pub row-limits : Settings → Call → List Test
+row-limits s x =
     22 when any-below (8 * mark-bytes (s .width)) (stray-mark (s .width) (x .marks))
     ∷ 24 when any-below (s .width) (crowded (s .width) (x .marks))
     ∷ 25 when any-below (s .width) (fast (s .drift) (x .drifts))
@@ -64,42 +61,35 @@ module _ (s : Settings) (ts : List ℕ) (row : Early s ts) where
         ) (eq-eqb w w refl)
 
     pub limited : field-refusal 3 (mark-bytes (s .width)) bs ≡ 0 →
-        row-refusal s ts (call-in (s .width) bs) ≡ first (tests-left s (call-in (s .width) bs))
+        row-refusal s ts (call-in (s .width) bs) ≡ first (row-limits s (call-in (s .width) bs))
     unfolding row-refusal row-tests first
     limited e = rw (eq-eqb (settings-refusal s) 0 (row .pass), lengths-fit e, none-late (call-in (s .width) bs .marks))
 
-    -- the row call of fields that keep their limits keeps its own
-    call-kept : Row-keeps s bs → field-refusal 3 (mark-bytes (s .width)) bs ≡ 0 → Row-limits s ts (call-in (s .width) bs)
-    unfolding call-in call mark-bytes Settings-plain
-    call-kept k e =
-        let w = s .width in
-        record {
-          settings = settings-plain s .1 (row .pass);
-          before-long = row .long;
-          marks-long = omega (arith, marks-length w bs e);
-          drifts-long = drifts-length w (tiles-in w bs);
-          links-long = links-length w (tiles-in w bs) (limits s (row .pass) .width .0);
-          room-long = refl;
-          early = λ c i m. row .early c i;
-          tiles = k .within;
-        }
-
     pub keeps : Row-keeps s bs → row-number s ts bs ≡ 0
-    unfolding row-number marks-field mark-bytes Field-plain Row-plain
+    unfolding row-number marks-field mark-bytes Field-plain
     keeps k =
         let m = field-plain 3 ((s .width + 7) / 8) bs .0 (k .marks-there) in
         let t = field-plain 4 (26 * s .width + 16) (drop (3 + (s .width + 7) / 8) bs) .0 (k .tiles-there) in
-        else-other (field-refusal 3 ((s .width + 7) / 8) bs) _ m
-        ∙ else-other (field-refusal 4 (26 * s .width + 16) (drop (3 + (s .width + 7) / 8) bs)) _ t
-        ∙ row-plain s ts (call-in (s .width) bs) .0 (call-kept k m)
+        let none = none-applies s (call-in (s .width) bs .marks) (call-in (s .width) bs .drifts) (call-in (s .width) bs .links) (limits s (row .pass) .width .0) (k .within) in
+        rw (
+          else-other (field-refusal 3 ((s .width + 7) / 8) bs) _ m,
+          else-other (field-refusal 4 (26 * s .width + 16) (drop (3 + (s .width + 7) / 8) bs)) _ t,
+          limited m,
+        ) (skip 22 _ (none .none-stray) ∙ skip 24 _ (none .none-crowded) ∙ skip 25 _ (none .none-fast) ∙ end 26 (none .none-bad))
 
     pub kept : row-number s ts bs ≡ 0 → Row-keeps s bs
-    unfolding row-number marks-field mark-bytes Field-plain Row-plain
+    unfolding row-number marks-field mark-bytes Field-plain call-in call
     kept e =
+        let x = call-in (s .width) bs in
         let a = else-none (field-refusal 3 (mark-bytes (s .width)) bs) _ e in
         let b = else-none (field-refusal 4 (tiles-size (s .width)) (drop (marks-field (s .width)) bs)) _ (a .1) in
+        let stray = unhit 21 (any-below (8 * mark-bytes (s .width)) (stray-mark (s .width) (x .marks))) _ (sym (limited (a .0)) ∙ b .1) in
+        let crowd = unhit 23 (any-below (s .width) (crowded (s .width) (x .marks))) _ (stray .1) in
+        let drift = unhit 24 (any-below (s .width) (fast (s .drift) (x .drifts))) _ (crowd .1) in
+        let link = unhit 25 (any-below (s .width) (bad-links s (x .marks) (x .links))) _ (drift .1) in
+        let none : None-applies s (x .marks) (x .drifts) (x .links) = record { none-stray = stray .0; none-crowded = crowd .0; none-fast = drift .0; none-bad = link .0 } in
         record {
           marks-there = field-plain 3 (mark-bytes (s .width)) bs .1 (a .0);
           tiles-there = field-plain 4 (tiles-size (s .width)) (drop (marks-field (s .width)) bs) .1 (b .0);
-          within = row-plain s ts (call-in (s .width) bs) .1 (b .1) .tiles;
+          within = within-limits s (x .marks) (x .drifts) (x .links) (limits s (row .pass) .width .0) (marks-length (s .width) bs (a .0)) none;
         }

@@ -8,8 +8,9 @@ use borrow.Author.Tests.{ltb-false}
 use Rattle.settings.specs.Refusal.{outside}
 use Rattle.settings.specs.Settings.{drift-cost, step, settings-tests, settings-refusal}
 use Rattle.settings.specs.declared.Settings.{Settings}
+pub use Rattle.settings.specs.Limits.{Limits}
 use Rattle.settings.proofs.Laws.Refusal.{unhit, inside}
-use Rattle.settings.proofs.Laws.Rounding.{up-least}
+use Rattle.settings.proofs.Laws.Rounding.{up-reaches, up-least}
 
 pub drift-cost-small : (r a : ℕ) → r ≤ 10000 → a ≤ 1000000 → drift-cost r a ≤ 10001
 unfolding drift-cost
@@ -22,20 +23,9 @@ unfolding step
 step-small h r i k =
     omega (arith, up-least (2 * h * r) {b = 1000000} (omega arith), mul-le-mul {n₁ = h} {m₁ = r} {n₂ = h} {m₂ = 10000} (omega arith) k)
 
--- what settings that are not turned away keep
-pub record Limits (s : Settings) : Type 0 where
-  pub width : (6 ≤ s .width) × (s .width ≤ 256)
-  pub rows : (1 ≤ s .rows) × (s .rows ≤ 1024)
-  pub delay : (1 ≤ s .delay) × (s .delay ≤ 1000000)
-  pub uncertainty : s .uncertainty ≤ s .delay
-  pub hold : (1 ≤ s .hold) × (s .hold ≤ 1000000)
-  pub drift : s .drift ≤ 10000
-  pub unit : (1 ≤ s .unit) × (s .unit ≤ 62500)
-  pub cost : s .uncertainty + drift-cost (s .drift) (s .hold) + 2 ≤ s .unit
-  pub held : 16 * s .unit ≤ s .hold
-
+-- settings that are not turned away keep their limits
 pub limits : (s : Settings) → settings-refusal s ≡ 0 → Limits s
-unfolding settings-refusal settings-tests
+unfolding settings-refusal settings-tests drift-cost
 limits s e =
     let t1 = unhit 0 (outside 6 256 (s .width)) _ e in
     let t2 = unhit 1 (outside 1 1024 (s .rows)) _ (t1 .1) in
@@ -47,13 +37,16 @@ limits s e =
     let t8 = unhit 7 (ltb (s .unit) (s .uncertainty + drift-cost (s .drift) (s .hold) + 2)) _ (t7 .1) in
     let t9 = unhit 8 (ltb (s .hold) (16 * s .unit)) _ (t8 .1) in
     record {
-      width = inside 6 256 (s .width) (t1 .0);
-      rows = inside 1 1024 (s .rows) (t2 .0);
-      delay = inside 1 1000000 (s .delay) (t3 .0);
-      uncertainty = inside 0 (s .delay) (s .uncertainty) (t4 .0) .1;
-      hold = inside 1 1000000 (s .hold) (t5 .0);
-      drift = inside 0 10000 (s .drift) (t6 .0) .1;
-      unit = inside 1 62500 (s .unit) (t7 .0);
-      cost = ltb-false (s .unit) (s .uncertainty + drift-cost (s .drift) (s .hold) + 2) (t8 .0);
-      held = ltb-false (s .hold) (16 * s .unit) (t9 .0);
+      width = omega (arith, inside 6 256 (s .width) (t1 .0));
+      rows = omega (arith, inside 1 1024 (s .rows) (t2 .0));
+      delay = omega (arith, inside 1 1000000 (s .delay) (t3 .0));
+      uncertainty = omega (arith, inside 0 (s .delay) (s .uncertainty) (t4 .0));
+      hold = omega (arith, inside 1 1000000 (s .hold) (t5 .0));
+      drift = omega (arith, inside 0 10000 (s .drift) (t6 .0));
+      unit = omega (arith, inside 1 62500 (s .unit) (t7 .0));
+      c = drift-cost (s .drift) (s .hold);
+      c-enough = up-reaches (s .drift * s .hold) {b = 1000000 + s .drift} (omega arith);
+      c-least = up-least (s .drift * s .hold) {b = 1000000 + s .drift} (omega arith);
+      cost = omega (arith, ltb-false (s .unit) (s .uncertainty + drift-cost (s .drift) (s .hold) + 2) (t8 .0));
+      held = omega (arith, ltb-false (s .hold) (16 * s .unit) (t9 .0));
     }
