@@ -9,3 +9,4 @@ pub mod Calls
 pub mod Takes
 pub mod Left
 pub mod Stands
+pub mod Width

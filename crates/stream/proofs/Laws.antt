@@ -3,3 +3,4 @@ pub mod State
 pub mod Held
 pub mod Run
 pub mod Whole
+pub mod Any

@@ -29,3 +29,17 @@ Run-right {K} step first whole =
     let handed = e .ran .handed in
     (r .ended ≡ Done → handed ≡ whole delivered)
     × ((rest : List ℕ) → (r .state .window .ended ≡ true → rest ≡ []) → take (length handed) (whole (delivered ++ rest)) ≡ handed)
+
+-- a run that is done, with a file delivered to it
+pub record Done-with {K : Type 0} (step : Kind K) (first : K) (file : List ℕ) : Type 0 where
+  pub outcome : Outcome
+  pub keeps : K
+  pub times : List ℕ
+  pub output : List ℕ
+  pub ends : Ends step first outcome keeps times output
+  pub done : outcome .ended ≡ Done
+  pub delivered : ends .ran .delivered ≡ file
+
+-- every file has one: what is claimed of runs is claimed of something
+unfoldable pub Any-file : {K : Type 0} → Kind K → (first : K) → Type 0
+Any-file step first = (file : List ℕ) → Done-with step first file

@@ -22,6 +22,7 @@ use Rattle.file.specs.Stands.{Stands}
 use Rattle.file.proofs.Laws.Calls.{texts-append}
 use Rattle.file.proofs.Laws.Stands.{step-stands, due-right}
 use Rattle.file.proofs.Laws.Steps.{part-enough}
+use Rattle.file.proofs.Laws.Width.{row-fits}
 use Rattle.stream.specs.Run.{brings}
 use Rattle.stream.proofs.Laws.Held.{row-kept}
 use Rattle.print.specs.Lines.{lines-step}
@@ -87,3 +88,9 @@ lines-one x k ts us bs i row =
     ∙ ap (λ (n : ℕ). texts-of (o .shows) ++ texts-of (from (o .next) (o .row) (drop n bs))) (sym due)
     ∙ ap (λ (l : List ℕ). texts-of (o .shows) ++ l)
     (sym (row-kept (λ (y : Wall) (l : List ℕ). texts-of (from y l (drop (due-of x) bs))) (λ p us vs. refl) (λ us vs. refl) x w (take (due-of x) bs) us (o .row) row))
+
+-- the row that a step leaves fits its place in a buffer
+pub lines-fits : (x : Wall) (k : Unit {0}) (times held : List ℕ) → Stands x → (brings lines-step x k times held .wall ≡ Over → ⊥) →
+    take (width-of x) (brings lines-step x k times held .row) ≡ brings lines-step x k times held .row
+unfolding lines-step
+lines-fits x k times held i more = row-fits x times (take (due-of x) held) i more

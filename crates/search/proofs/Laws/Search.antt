@@ -33,6 +33,7 @@ use Rattle.window.specs.Window.{In-buffer, bytes-in}
 use Rattle.search.specs.Search.{search-step, Tells}
 use Rattle.range.proofs.Laws.File.{from, part-told, one-step}
 use Rattle.file.proofs.Laws.Steps.{part-enough}
+use Rattle.file.proofs.Laws.Width.{row-fits}
 
 -- a wall that stands takes its step, with rows of its width
 pub never-unfit : {x : Wall} {part row held next : List ℕ} {answer : Answer} → Stands x → length row ≡ width-of x → length held ≡ width-of x →
@@ -136,3 +137,10 @@ module _ (asked : List ℕ) where
       ∙ ap (λ (o : Stepped). t .text ++ from asked (t .wall) (t .largest) (o .row) (drop (due-size x) bs)) same
       ∙ ap (λ (n : ℕ). t .text ++ from asked (t .wall) (t .largest) (step-of x w part .row) (drop n bs)) (sym due)
       ∙ ap (λ (l : List ℕ). t .text ++ l) (sym (row-told x m (t .largest) w part us (drop (due-of x) bs) row))
+
+  -- the row that a step leaves fits its place in a buffer
+  pub search-fits : (x : Wall) (m : ℕ) (times held : List ℕ) → Stands x → (brings (search-step asked) x m times held .wall ≡ Over → ⊥) →
+      take (width-of x) (brings (search-step asked) x m times held .row) ≡ brings (search-step asked) x m times held .row
+  unfolding search-step
+  search-fits x m times held i more =
+      row-fits x times (take (due-of x) held) i (λ e. more (⊎-elim (λ w. w ∙ e) (λ w. w) (told-wall asked x m (take (width-of x) times) (take (due-of x) held))))
