@@ -2,25 +2,14 @@
 use mathlib.Core.Path.{_≡_}
 use mathlib.Core.Bool.{Bool, true, cond, not, _&&_}
 use mathlib.Core.List.{List, [], _∷_, _++_}
-use Prim.Native.Nat.{ℕ, _+_, _*_, _-_}
+use Prim.Native.Nat.{ℕ}
 use lib.Dec.{eqb, leb}
 use lib.ListN.{length, drop}
-
-unfoldable pub is-digit : (byte : ℕ) → Bool
-is-digit b = leb 48 b && leb b 57
-
-unfoldable pub all-digits : (word : List ℕ) → Bool
-all-digits [] = true
-all-digits (b ∷ bs) = is-digit b && all-digits bs
-
--- the number that decimal digits spell, after others that spell n
-unfoldable pub spelled : (n : ℕ) → (digits : List ℕ) → ℕ
-spelled n [] = n
-spelled n (b ∷ bs) = spelled (n * 10 + (b - 48)) bs
+use Rattle.lines.specs.Promises.{is-digit, all-are, spelt}
 
 -- a word of digits names the row that it spells, from 1 to 1,024; any other names none, which is 0
 unfoldable pub row-named : (word : List ℕ) → ℕ
-row-named w = cond (all-digits w && leb (spelled 0 w) 1024) (spelled 0 w) 0
+row-named w = cond (all-are is-digit w && leb (spelt 10 w) 1024) (spelt 10 w) 0
 
 unfoldable pub rows-named : (words : List (List ℕ)) → List ℕ
 rows-named [] = []
