@@ -11,8 +11,8 @@ use Rattle.columns.specs.Marks.{marked}
 use Rattle.admission.specs.Call.{Call}
 use Rattle.admission.specs.Refusal.{row-refusal}
 
--- column k is a predecessor of a tile in column c: "its own column and the neighbours of that column", which "differ by 1, or are
--- 0 and 2, or W - 3 and W - 1"
+-- column k is a predecessor of a tile in column c: c itself, the columns beside it, and the third from an end for that end, and
+-- the other way round
 pub data Hears (w c k : ℕ) : Type 0 where
   own : k ≡ c → Hears w c k
   next : k ≡ c + 1 → Hears w c k
@@ -22,7 +22,7 @@ pub data Hears (w c k : ℕ) : Type 0 where
   third-last : c + 3 ≡ w → k + 1 ≡ w → Hears w c k
   last-third : c + 1 ≡ w → k + 3 ≡ w → Hears w c k
 
--- the link value to tile c from its predecessor k is number n of the row, "by tile and then by sender column": each tile has three,
+-- the link value to tile c from its predecessor k is number n of the row, counted tile after tile, senders from left to right: each tile has three,
 -- and those in columns 2 and W - 3 have four
 pub data Link-at (w c k n : ℕ) : Type 0 where
   to-first-three : c ≤ 2 → n ≡ 3 * c + k → Link-at w c k n

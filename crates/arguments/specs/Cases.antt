@@ -1,6 +1,6 @@
 -- Words and the rows that they name, and how many may ask. Proved in proofs/Cases.antt. Assumes nothing.
 use mathlib.Core.Path.{_≡_}
-use mathlib.Core.Bool.{Bool, true, false}
+use mathlib.Core.Bool.{true, false}
 use mathlib.Core.List.{List, [], _∷_}
 use Prim.Native.Nat.{ℕ, zero, suc}
 use Rattle.arguments.specs.Asked.{rows-named, ask}

@@ -12,12 +12,12 @@ are-neighbours w a b =
     (eqb (suc a) b || eqb (suc b) a)
     || (((eqb a 0 && eqb b 2) || (eqb a 2 && eqb b 0)) || ((eqb (a + 3) w && eqb (suc b) w) || (eqb (suc a) w && eqb (b + 3) w)))
 
--- "A hop is a step to a neighbour." A way of n hops from a column to another
+-- a way of n hops from a column to another, each hop to a neighbour
 pub data Way (w : ℕ) : (n a b : ℕ) → Type 0 where
   stay : {a : ℕ} → Way w 0 a a
   hop : {n a b c : ℕ} → c < w → are-neighbours w c b ≡ true → Way w n a b → Way w (suc n) a c
 
--- at most n hops apart: "Two columns are as many hops apart as the shortest way between them has."
+-- at most n hops apart: there is a way of n hops or fewer
 pub record Hops-within (w n a b : ℕ) : Type 0 where
   pub hops : ℕ
   pub few : hops ≤ n

@@ -3,11 +3,10 @@ use mathlib.Core.Path.{_≡_}
 use mathlib.Core.Bool.{true, false}
 use mathlib.Core.List.{List, [], _∷_, _++_}
 use Prim.Native.Nat.{ℕ, _+_, _-_, _*_, _/_, _^_}
-use Rattle.settings.specs.declared.Settings.{Settings}
 use Rattle.columns.specs.Columns.{table-from}
 use Rattle.contents.specs.Contents.{settings-size, settings-in, start-size, times-in, latest-start, late-start, tiles-size, drifts-in, links-in, marks-field, row-size, marks-in, tiles-in}
 
--- "W, R (2 bytes each), d, u, A, r, h (4 each)"
+-- W and R in two bytes each, then d, u, A, r and h in four
 unfoldable pub body-1 : List ℕ
 body-1 =
     (0 ∷ 6 ∷ 4 ∷ 0 ∷ [])
@@ -27,7 +26,7 @@ Start-limit =
     let times : List ℕ = 0 ∷ (2 ^ 39 - 1) ∷ (2 ^ 39) ∷ [] in
     (latest-start ≡ 2 ^ 39 - 1) × (late-start times 0 ≡ false) × (late-start times 1 ≡ false) × (late-start times 2 ≡ true)
 
--- "per tile a 2-byte drift and then 8-byte link values, senders ascending", of W 6 where byte k of the body is k: tiles 2 and 3 have
+-- tile after tile, its drift in two bytes and its links in eight each, from left to right, of W 6 where byte k of the body is k: tiles 2 and 3 have
 -- four senders
 unfoldable pub body-4 : List ℕ
 body-4 = table-from 172 0 (λ k. k)

@@ -1,6 +1,6 @@
 -- The proof of what specs/Limits.antt states. Assumes nothing.
 use native.Mathlib.Omega.{arith}
-use Rattle.fields.specs.Limits.{Field-there, Field-plain}
+use Rattle.fields.specs.Limits.{Field-plain}
 use Rattle.fields.proofs.Laws.Bytes.{two-bytes}
 use Rattle.fields.proofs.Laws.Field.{field-accepted, whole}
 

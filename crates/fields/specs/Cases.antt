@@ -5,13 +5,13 @@ use Prim.Native.Nat.{ℕ}
 use Rattle.fields.specs.Bytes.{big-endian}
 use Rattle.fields.specs.Field.{field-refusal, body}
 
--- "numbers big-endian", from any place on
+-- the first byte is the highest, from any place on
 unfoldable pub Big-endian-met : Type 0
 Big-endian-met =
     (big-endian 2 (1 ∷ 2 ∷ []) 0 ≡ 258) × (big-endian 4 (9 ∷ 0 ∷ 1 ∷ 0 ∷ 2 ∷ []) 1 ≡ 65538)
     × (big-endian 8 (0 ∷ 0 ∷ 1 ∷ 0 ∷ 0 ∷ 0 ∷ 0 ∷ 2 ∷ []) 0 ≡ 1099511627778)
 
--- "the body is the part of the file after the three bytes", as long as is due
+-- the body begins behind tag and length, and is as long as is due
 unfoldable pub Body-met : Type 0
 Body-met = body 2 (3 ∷ 0 ∷ 2 ∷ 5 ∷ 6 ∷ 7 ∷ []) ≡ 5 ∷ 6 ∷ []
 
@@ -23,7 +23,7 @@ pub record Case : Type 0 where
 unfoldable pub case : (number : ℕ) → (rest : List ℕ) → Case
 case n bs = record { number = n; rest = bs }
 
--- "43 if under three bytes are left, 41, 42, 43 for the body"
+-- 43 where tag and length are not there, then 41, 42, and 43 again where the body is not
 unfoldable pub field-cases : List Case
 field-cases =
     -- under three bytes: 43, also where the tag is another

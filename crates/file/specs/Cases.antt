@@ -22,7 +22,7 @@ printed (s ∷ ss) = codes s ++ (10 ∷ printed ss)
 unfoldable pub put : (at : ℕ) → (bytes file : List ℕ) → List ℕ
 put at bs file = take at file ++ bs ++ drop (at + length bs) file
 
--- "A wall printed whole"
+-- the wall that 01 prints
 unfoldable pub printed-file : List ℕ
 printed-file =
     -- tag 1: W 6, R 1; d 100, u 10, A 400, r 0, h 12
@@ -136,7 +136,7 @@ second-lines =
 unfoldable pub Faulty-printed : Type 0
 Faulty-printed = wall-text faulty-file ≡ printed (first-lines ++ second-lines)
 
--- a drift of 10001 in row 2: "25 a drift over r", and row 1 is not shown
+-- a drift of 10001 in row 2, which is 25, and row 1 is not shown
 unfoldable pub Second-row-refused : Type 0
 Second-row-refused = wall-text (put 350 (39 ∷ 17 ∷ []) faulty-file) ≡ printed ("refused 25 at 261" ∷ [])
 

@@ -50,7 +50,7 @@ pub data Rows-keep (s : Settings) : (n : ℕ) → (rest : List ℕ) → Type 0 w
   over : Rows-keep s 0 []
   and-then : {n : ℕ} {rest : List ℕ} → Row-keeps s rest → Rows-keep s n (drop (row-size (s .width)) rest) → Rows-keep s (suc n) rest
 
--- "A wall description that keeps every limit": tag 1 with 24 bytes, settings within their limits, tag 2 with 8W bytes, row 0 times up to
+-- a wall that keeps every limit: tag 1 with 24 bytes, settings within their limits, tag 2 with 8W bytes, row 0 times up to
 -- 2^39 - 1, and R rows
 pub record Keeps (file : List ℕ) : Type 0 where
   pub settings-there : Field-there 1 24 file

@@ -24,8 +24,8 @@ changed n at k bs = case n at (put k bs printed-file)
 unfoldable pub cut : (number offset bytes : ℕ) → Case
 cut n at k = case n at (take k printed-file)
 
--- "41 another tag than due; 42 another length than due; 43 the file ends inside or before a due field; 44 bytes after the last; 45 a row
--- 0 time over 2^39 - 1": the offset "of the field's tag (for 44, of the first extra byte; for 43, of the field due ..)"
+-- 41 a tag that is not due, 42 a length that is not, 43 a file that is too short, 44 one that is too long, 45 a row 0 time past 2^39 - 1:
+-- each at the place of the field that is due, 44 where the file should have ended
 unfoldable pub fields-refused : List Case
 fields-refused =
     changed 41 0 0 (2 ∷ [])
@@ -74,7 +74,7 @@ settings-refused =
     ∷ changed 9 0 15 (0 ∷ 0 ∷ 0 ∷ 191 ∷ [])
     ∷ []
 
--- "for 22 to 26, of tag 4": a mark in column 6, marks in columns 0 and 1, a drift of 1 in the last tile, and a delay of 101, of 89 and
+-- 22 and 24 to 26, at the place of tag 4: a mark in column 6, marks in columns 0 and 1, a drift of 1 in the last tile, and a delay of 101, of 89 and
 -- of 2^64 - 1
 unfoldable pub row-refused : List Case
 row-refused =
@@ -86,8 +86,8 @@ row-refused =
     ∷ changed 26 82 87 (255 ∷ 255 ∷ 255 ∷ 255 ∷ 255 ∷ 255 ∷ 255 ∷ 255 ∷ [])
     ∷ []
 
--- "For each field: 43 if under three bytes are left, 41, 42, 43 for the body, then its contents (tag 3's together with tag 4's, once both
--- are there)"
+-- where two apply: tag and length missing, then the tag, the length, the body, and only then what a field holds, tag 3's once tag 4 is
+-- there too
 unfoldable pub order-kept : List Case
 order-kept =
     -- under three bytes are left, and the tag is another

@@ -1,5 +1,5 @@
--- What the functions answer and leave at numbers, by the words of bindings/c/polzaintu.h. The settings are those of "A wall printed
--- whole". Each statement is proved in proofs/Cases.antt, under its name in small letters. Assumes nothing.
+-- What the functions answer and leave at numbers, by the words of bindings/c/polzaintu.h. The settings are those of the wall that
+-- 01 prints. Each statement is proved in proofs/Cases.antt, under its name in small letters. Assumes nothing.
 use mathlib.Core.Path.{_≡_}
 use mathlib.Core.Bool.{Bool, true, false}
 use mathlib.Core.List.{List, [], _∷_, map}

@@ -7,7 +7,7 @@ use Rattle.file.specs.Cases.{printed, put, printed-file}
 use Rattle.range.specs.File.{search-text}
 use Rattle.range.specs.Read.{last-number}
 
--- "A wall printed whole" with its tile of column 3 broken: it is marked, and arrives at tiles 2 to 5 at 1000
+-- the wall that 01 prints with its tile of column 3 broken: it is marked, and arrives at tiles 2 to 5 at 1000
 unfoldable pub at-1000 : List ℕ
 at-1000 = 0 ∷ 0 ∷ 0 ∷ 0 ∷ 0 ∷ 0 ∷ 3 ∷ 232 ∷ []
 

@@ -15,7 +15,7 @@ use Rattle.reach.specs.Answers.{Gap-is, Reached-is, Surveyed-is}
 unfoldable pub wall : Settings
 wall = settings 10 5 100 10 400 0 12
 
--- the row 0 of "A wall printed whole", and rows in which the widest are columns 0 and 2, columns W - 3 and W - 1, and no others so far apart
+-- row 0 of the wall that 01 prints, and rows in which the widest are columns 0 and 2, columns W - 3 and W - 1, and no others so far apart
 unfoldable pub Widest-cases : Type 0
 Widest-cases =
     (widest-gap 6 (1000 ∷ 1000 ∷ 1000 ∷ 1080 ∷ 1000 ∷ 1000 ∷ []) ≡ 80)

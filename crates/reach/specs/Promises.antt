@@ -20,7 +20,7 @@ use Rattle.reach.specs.Survey.{largest-of}
 use Rattle.reach.specs.Answers.{gap-B, reached-ticks, reached-first, reached-last, Gap-is, Reached-is}
 use Rattle.reach.specs.declared.Reached.{Reached}
 
--- B is "the largest difference between neighbouring pulses": no two neighbours differ by more, and it is no more than has to be
+-- what B is: no two neighbours differ by more, and it is no more than has to be
 unfoldable pub B-largest : Type 0
 B-largest =
     (w : ℕ) (row : List ℕ) (most : ℕ) →

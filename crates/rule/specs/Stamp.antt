@@ -31,7 +31,7 @@ latest (x ∷ xs) = later x (latest xs)
 abbrev pub latest-stamp : ℕ
 latest-stamp = 2199023255551
 
--- a stamp as one number: "2^64 - 1 is silent"
+-- a stamp as one number, 2^64 - 1 for silence
 abbrev pub silence : ℕ
 silence = 18446744073709551615
 

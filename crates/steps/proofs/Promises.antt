@@ -1,15 +1,13 @@
 -- The proofs of what specs/Promises.antt states. Assumes nothing.
-use mathlib.Core.Path.{_≡_, refl, sym, _∙_, ap}
-use mathlib.Core.Bool.{true, false}
-use mathlib.Core.Option.{Option, none, some}
+use mathlib.Core.Path.{_≡_, refl, _∙_, ap}
+use mathlib.Core.Option.{none, some}
 use Prim.Native.Nat.{ℕ}
 use borrow.Author.Tests.{ne-eqb}
 use Rattle.stages.specs.declared.Wall.{Wall}
 use Rattle.stages.specs.declared.Wall.the-variants.{Over}
-use Rattle.steps.specs.Answer.{number-of, offset-of, wall-of, number-due, offset-due, wall-then, row-then}
+use Rattle.steps.specs.Answer.{number-of, offset-of, wall-of, number-due, offset-due, wall-then}
 use Rattle.steps.specs.Promises.{Take-answered}
-use Rattle.steps.specs.Step.{step-of}
-use Rattle.steps.specs.Take.{taken, taken-of, both-fit, answer-of, row-after, Takes}
+use Rattle.steps.specs.Take.{taken, answer-of, row-after}
 use Rattle.steps.specs.declared.Answer.{Answer}
 use Rattle.steps.specs.declared.Answer.the-variants as answer
 use Rattle.steps.proofs.Laws.Answer.{taken-goes, taken-gone, row-goes-on, row-stays}

@@ -40,8 +40,8 @@ number-due (Row p) ts bs = row-number (p .settings) ts bs
 number-due (End p) ts bs = cond (eqb (length bs) 0) 0 44
 number-due Over ts bs = 0
 
--- .. where it is turned away: "byte offset of the field's tag (for 44, of the first extra byte; for 43, of the field due; for 22 to
--- 26, of tag 4)"
+-- .. where it is turned away: where the field that is due begins, tag 4 for what a row's fields hold, and the first byte too many for
+-- 44
 unfoldable pub offset-due : Wall → (part : List ℕ) → ℕ
 offset-due New bs = 0
 offset-due (Start p) bs = p .offset

@@ -7,7 +7,7 @@ use lib.ListN.{replicate}
 use Rattle.stages.specs.declared.Place.{Place}
 use Rattle.stages.specs.declared.Wall.{Wall}
 use Rattle.stages.specs.declared.Wall.the-variants.{New, Start, Row, End}
-use Rattle.steps.specs.Shown.{Shown, turned-away}
+use Rattle.steps.specs.Shown.{turned-away}
 use Rattle.steps.specs.Step.{step-of}
 
 unfoldable pub placed : (row offset : ℕ) → Place

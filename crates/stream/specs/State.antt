@@ -12,7 +12,7 @@ use Rattle.window.specs.Window.{In-buffer, bytes-in, lacking, Filled-up}
 use Rattle.file.specs.Stands.{Stands}
 use Rattle.stages.specs.declared.Wall.{Wall}
 use Rattle.stages.specs.declared.Wall.the-variants.{New, Over}
-use Rattle.stream.specs.Run.{Brought, Kind, brings, Ran}
+use Rattle.stream.specs.Run.{Kind, brings, Ran}
 use Rattle.stream.specs.declared.State.{State}
 use Rattle.stream.specs.declared.Ended.{Ended}
 use Rattle.stream.specs.declared.Ended.the-variants.{Done, ReadFailed, WriteFailed}

@@ -10,7 +10,7 @@ use Rattle.stages.specs.declared.Wall.the-variants.{New, End, Over}
 use Rattle.file.specs.Cases.{printed}
 use Rattle.telling.specs.Telling.{first-marked, says, row-says, telling}
 
--- "one bit a column, column 0 lowest in the first byte": no mark, that of column 3, of columns 3 and 1, of column 9
+-- a bit for each column, from the lowest of the first byte on: no mark, that of column 3, of columns 3 and 1, of column 9
 unfoldable pub Marked-cases : Type 0
 Marked-cases =
     (first-marked 10 (0 ∷ 0 ∷ []) ≡ 10)
@@ -18,7 +18,7 @@ Marked-cases =
     × (first-marked 10 (10 ∷ 0 ∷ []) ≡ 1)
     × (first-marked 10 (0 ∷ 2 ∷ []) ≡ 9)
 
--- the wall of "A wall printed whole" at a row, so many bytes taken, and its row 0
+-- the wall that 01 prints at a row, so many bytes taken, and its row 0
 unfoldable pub at-row : (row offset : ℕ) → Place
 at-row l at = place (settings 6 1 100 10 400 0 12) l at
 

@@ -1,13 +1,13 @@
 -- The proofs of what specs/Promises.antt states. Assumes nothing.
-use mathlib.Core.Path.{_≡_, refl, sym, _∙_, ap}
-use mathlib.Core.Bool.{true, false}
+use mathlib.Core.Path.{_≡_, refl, _∙_, ap}
+use mathlib.Core.Bool.{true}
 use mathlib.Core.List.{List, append-nil}
-use mathlib.Core.Option.{none, some}
+use mathlib.Core.Option.{some}
 use Prim.Native.Nat.{ℕ, _+_}
 use lib.ListN.{length}
 use Rattle.lines.specs.Line.{refused-line}
 use Rattle.show.specs.Text.{text-of, texts-of}
-use Rattle.steps.specs.Answer.{number-due, offset-due, wall-then, row-then, shown-then}
+use Rattle.steps.specs.Answer.{number-due, offset-due, wall-then, shown-then}
 use Rattle.steps.specs.Step.{Stepped, stepped, away, step-of}
 use Rattle.steps.proofs.Laws.Answer.{step-goes, step-away}
 use Rattle.stages.specs.declared.Wall.{Wall}

@@ -9,7 +9,7 @@ use native.Mathlib.Nat.{add-zero}
 use native.Mathlib.Omega.{arith}
 use borrow.Author.Tests.{eqb-true}
 use Rattle.settings.proofs.Laws.Cases.{by-order, by-equal}
-use Rattle.columns.specs.Columns.{are-neighbours, columns-from, is-predecessor, predecessors, links-before, link-place, any-of}
+use Rattle.columns.specs.Columns.{are-neighbours, columns-from, is-predecessor, predecessors, links-before, link-place}
 use Rattle.columns.specs.Marks.{marked, faulty-among}
 use Rattle.columns.specs.Window.{first-sender, four-senders}
 use Rattle.columns.proofs.Laws.Columns.{first-link-place, second-link-place, third-link-place, fourth-link-place, links-early, links-inner, links-late, four-yes}

@@ -3,7 +3,7 @@ use mathlib.Core.Path.{_≡_}
 use Prim.Native.Nat.{_-_, _≤_}
 use lib.ListN.{length}
 use native.Mathlib.Omega.{arith}
-use mathlib.Core.Path.{refl, sym, subst}
+use mathlib.Core.Path.{refl, subst}
 use Rattle.arguments.specs.Asked.{Names}
 use Rattle.arguments.proofs.Laws.Rows.{So-far, none-asked, too-many, unnamed, asked-more, all-asked}
 use borrow.Author.Needs.{needs}

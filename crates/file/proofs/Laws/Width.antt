@@ -1,7 +1,7 @@
 -- The row that a step leaves is as long as the wall is wide, unless the wall is over. Assumes nothing.
-use mathlib.Core.Path.{_≡_, refl, sym, _∙_, ap}
+use mathlib.Core.Path.{_≡_, refl, sym}
 use mathlib.Core.List.{List}
-use Prim.Native.Nat.{ℕ, _≤_}
+use Prim.Native.Nat.{ℕ}
 use native.Mathlib.Omega.{arith}
 use borrow.Author.Tests.{eq-eqb}
 use lib.ListN.{length, take}
@@ -16,7 +16,7 @@ use Rattle.stages.specs.declared.Place.{Place}
 use Rattle.stages.specs.declared.Wall.{Wall}
 use Rattle.stages.specs.declared.Wall.the-variants.{New, Start, Row, End, Over}
 use Rattle.steps.specs.Number.{start-number, row-number}
-use Rattle.steps.specs.Step.{Stepped, stepped, away, step-of}
+use Rattle.steps.specs.Step.{stepped, away, step-of}
 use Rattle.steps.proofs.Laws.Taken.{settings-keeps, start-away, start-goes, row-away, row-goes, end-away, end-goes}
 use Rattle.file.specs.Stands.{Stood, Stands}
 

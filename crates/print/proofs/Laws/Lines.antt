@@ -1,20 +1,17 @@
 -- What is shown from a wall on, step by step. Assumes nothing.
 use mathlib.Core.Path.{_≡_, refl, sym, _∙_, ap}
-use mathlib.Core.Bool.{Bool, true, false}
 use mathlib.Core.List.{List, [], _++_, append-nil}
-use Prim.Native.Nat.{ℕ, zero, suc, _+_, _-_, _≤_, _<_}
+use Prim.Native.Nat.{ℕ, zero, suc, _+_, _-_, _≤_}
 use native.Mathlib.Omega.{arith}
 use borrow.Author.Tests.{eq-eqb, ne-eqb, lt-ltb, le-ltb}
 use lib.ListN.{length, take, drop}
 use Rattle.settings.specs.declared.Settings.{Settings}
 use Rattle.settings.proofs.Laws.Cases.{by-order, by-equal}
-use Rattle.settings.proofs.Laws.Settings.{limits}
 use Rattle.steps.specs.Number.{settings-number, start-number, row-number}
 use Rattle.steps.specs.Shown.{Shown}
 use Rattle.steps.specs.Step.{Stepped, stepped, away, settings-step, start-step, after-row, row-step, end-step, step-of}
 use Rattle.show.specs.Text.{texts-of}
 use Rattle.stages.specs.Fit.{place, due-size, due-of, width-of}
-use Rattle.stages.specs.declared.Place.{Place}
 use Rattle.stages.specs.declared.Wall.{Wall}
 use Rattle.stages.specs.declared.Wall.the-variants.{New, Start, Row, End, Over}
 use Rattle.file.specs.File.{rows-shown, start-shown, shown}

@@ -16,7 +16,7 @@ use Rattle.row.specs.Row.{row-of}
 use Rattle.fields.specs.Field.{body}
 use Rattle.contents.specs.Contents.{start-size, times-in, row-size, marks-in, call-in}
 use Rattle.steps.specs.Number.{settings-number, start-number, row-number, row-offset}
-use Rattle.steps.specs.Shown.{row-shown, no-marks, number-shown, offset-shown}
+use Rattle.steps.specs.Shown.{no-marks, number-shown, offset-shown}
 use Rattle.file.specs.Stands.{Stands}
 use Rattle.steps.specs.Step.{Stepped, stepped, away, after-row, step-of}
 use Rattle.stages.specs.Fit.{place, due-size}

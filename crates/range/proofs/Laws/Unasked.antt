@@ -1,12 +1,12 @@
 -- Rows that are not asked for change nothing of what is told. Assumes nothing.
-use mathlib.Core.Path.{_≡_, refl, _∙_, ap}
+use mathlib.Core.Path.{_≡_, refl, ap}
 use mathlib.Core.Bool.{Bool, true, false, not, cond}
 use mathlib.Core.List.{List, [], _∷_, _++_}
 use Prim.Native.Nat.{ℕ, zero, suc, _+_}
 use native.Mathlib.Omega.{arith}
 use borrow.Author.Tests.{le-ltb}
 use lib.Dec.{eqb, ltb}
-use lib.ListN.{length, drop, replicate}
+use lib.ListN.{drop, replicate}
 use Rattle.settings.specs.Settings.{settings-refusal}
 use Rattle.settings.specs.declared.Settings.{Settings}
 use Rattle.row.specs.Row.{row-of}
@@ -17,7 +17,7 @@ use Rattle.reach.specs.declared.survey.Surveyed.the-variants as surveyed
 use Rattle.lines.specs.Line.{refused-line}
 use Rattle.fields.specs.Field.{body}
 use Rattle.contents.specs.Contents.{settings-size, settings-in, start-size, times-in, row-size, marks-in, call-in}
-use Rattle.steps.specs.Number.{settings-number, start-number, row-number, row-offset}
+use Rattle.steps.specs.Number.{row-number, row-offset}
 use Rattle.search_lines.specs.Text.{faulty-word, line-text, reach-text, reach-texts, gap-text}
 use Rattle.telling.specs.Telling.{first-marked}
 use Rattle.range.specs.File.{with-lines, rows-told, start-told, file-told, search-text}

@@ -2,16 +2,16 @@
 use mathlib.Core.Path.{_≡_, refl, sym, _∙_, ap}
 use mathlib.Core.Bool.{Bool, true, false, cond}
 use mathlib.Core.List.{List, [], _++_, append-nil, append-assoc}
-use Prim.Native.Nat.{ℕ, _-_, _≤_, _<_}
+use Prim.Native.Nat.{ℕ, _-_, _<_}
 use native.Mathlib.Omega.{arith}
 use lib.ListN.{length, take, drop, take-append-drop}
-use Rattle.stages.specs.Fit.{due-of, width-of}
+use Rattle.stages.specs.Fit.{due-of}
 use Rattle.stages.specs.declared.Wall.{Wall}
 use Rattle.stages.specs.declared.Wall.the-variants.{Over}
 use Rattle.file.specs.Stands.{Stands, steps-left}
 use Rattle.file.proofs.Laws.Stands.{Ahead}
 use Rattle.window.specs.Window.{bytes-in, lacking}
-use Rattle.stream.specs.Run.{Brought, Kind, brings, Turns, begins, reads, ends, steps, Ran}
+use Rattle.stream.specs.Run.{Brought, Kind, brings, begins, reads, ends, steps, Ran}
 use Rattle.stream.specs.State.{Starts, to-hand, Made-ready, stepped, Advanced, Standing, finished, Ends}
 use Rattle.stream.specs.Promises.{Turn-right}
 use Rattle.stream.specs.declared.State.{State}

@@ -11,7 +11,6 @@ use Rattle.stages.specs.declared.Wall.{Wall}
 use Rattle.stages.specs.declared.Wall.the-variants.{New, Over}
 use Rattle.file.specs.Stands.{Stands}
 use Rattle.stream.specs.Run.{Kind, brings, Turns, begins, reads, ends, steps}
-use Rattle.stream.specs.State.{Ends}
 use Rattle.stream.specs.Promises.{Run-right}
 use Rattle.stream.proofs.Laws.Held.{held-part}
 
