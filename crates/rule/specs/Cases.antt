@@ -104,7 +104,7 @@ Clock-cases =
     × (reads 0 0 1100 ≡ 1100)
     × (first-tick 0 0 1511 ≡ 1511)
 
--- §6.1 the number that stands for silence, and no other; the latest stamp of §6.2
+-- §6.1 2^64 - 1 stands for silence, and one less does not; the latest stamp (§6.2)
 unfoldable pub Stamp-limits : Type 0
 Stamp-limits =
     (latest-stamp ≡ 2 ^ 41 - 1)

@@ -66,7 +66,7 @@ unfoldable pub after : ℕ → Stamp → Stamp
 after n (heard a) = heard (a + n)
 after n silent = silent
 
--- §4.3 a stamp among some
+-- §12.3 a stamp among some
 pub data _∈_ (x : Stamp) : List Stamp → Type 0 where
   here : {xs : List Stamp} → x ∈ (x ∷ xs)
   there : {y : Stamp} {xs : List Stamp} → x ∈ xs → x ∈ (y ∷ xs)
