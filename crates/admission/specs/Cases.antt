@@ -9,41 +9,50 @@ use Rattle.settings.specs.declared.Settings.{Settings}
 use Rattle.admission.specs.Call.{Call, call}
 use Rattle.admission.specs.Refusal.{row-refusal}
 
+-- §7.4 a row call, with its settings and row before, and its number
 pub record Case : Type 0 where
   pub settings : Settings
   pub before : List ℕ
   pub call : Call
   pub number : ℕ
 
+-- §7.4 the record of such a case
 unfoldable pub case : Settings → (before marks drifts links : List ℕ) → (room number : ℕ) → Case
 case s ts ms ds ls room n = record { settings = s; before = ts; call = call ms ds ls room; number = n }
 
+-- §14.4 the settings, with r 0 and h 12
 unfoldable pub wall : Settings
 wall = settings 6 1 100 10 400 0 12
 
--- W times of 1000 and W drifts of 0, one of them another; delays of 100, one of them another
+-- §7.1 a row before, all at 1000
 unfoldable pub times : List ℕ
 times = replicate 6 1000
 
+-- §7.1 .. with one time another
 unfoldable pub time : (column t : ℕ) → List ℕ
 time c t = set times c t
 
+-- §7.1 drifts of 0
 unfoldable pub drifts : List ℕ
 drifts = replicate 6 0
 
+-- §7.1 .. with one drift another
 unfoldable pub drift : (column p : ℕ) → List ℕ
 drift c p = set drifts c p
 
+-- §7.3 link values that are delays of 100
 unfoldable pub delays : List ℕ
 delays = replicate 20 100
 
+-- §7.3 .. with one value another
 unfoldable pub value : (place v : ℕ) → List ℕ
 value i v = set delays i v
 
+-- §7.2 the marks of W 6, which are one byte
 unfoldable pub marks : ℕ → List ℕ
 marks b = b ∷ []
 
--- 21: each lent row, one short and one long
+-- §7.4 21: each lent row, one short and one long
 unfoldable pub lengths : List Case
 lengths =
     case wall times (marks 0) drifts delays 6 0
@@ -59,7 +68,7 @@ lengths =
     ∷ case wall times (marks 0) drifts delays 7 21
     ∷ []
 
--- 22: the last column is 5, bit 32
+-- §7.4 22: the last column is 5, bit 32
 unfoldable pub strays : List Case
 strays =
     case wall times (marks 32) drifts delays 6 0
@@ -67,7 +76,7 @@ strays =
     ∷ case wall times (marks 128) drifts delays 6 22
     ∷ []
 
--- 23: times up to 2^40 - 1; a faulty tile's is not looked at
+-- §7.4 23: times up to 2^40 - 1; a faulty tile's is not looked at
 unfoldable pub late-times : List Case
 late-times =
     case wall (time 0 1099511627775) (marks 0) drifts delays 6 0
@@ -78,7 +87,7 @@ late-times =
     ∷ case wall (time 5 18446744073709551615) (marks 32) drifts delays 6 0
     ∷ []
 
--- 24: some tile hears columns 0 and 1, 0 and 3, 2 and 5; none hears 0 and 4, 1 and 4, or 0 and 5
+-- §7.4 24: some tile hears columns 0 and 1, 0 and 3, 2 and 5; none hears 0 and 4, 1 and 4, or 0 and 5
 unfoldable pub crowds : List Case
 crowds =
     case wall times (marks 3) drifts delays 6 24
@@ -89,7 +98,7 @@ crowds =
     ∷ case wall times (marks 33) drifts delays 6 0
     ∷ []
 
--- 25: drifts up to r
+-- §7.4 25: drifts up to r
 unfoldable pub fast-clocks : List Case
 fast-clocks =
     case wall times (marks 0) (drift 0 1) delays 6 25
@@ -97,7 +106,7 @@ fast-clocks =
     ∷ case (settings 6 1 100 10 400 10000 16) times (marks 0) (drift 5 10001) delays 6 25
     ∷ []
 
--- 26: delays from 90 to 100, in the first link and in the last, and no silence; faulty arrivals up to 2^40 - 1, or silence, where
+-- §7.4 26: delays from 90 to 100, in the first link and in the last, and no silence; faulty arrivals up to 2^40 - 1, or silence, where
 -- column 3 is broken and place 11 is its link to tile 3
 unfoldable pub links : List Case
 links =
@@ -114,8 +123,8 @@ links =
     ∷ case wall times (marks 8) drifts (value 10 89) 6 26
     ∷ []
 
--- where two apply, the lower: a settings number with 21, 21 with 22, 22 with 23, 23 with 24, 24 with 25, and 25 in the last column with
--- 26 in the first
+-- §13.1 where two apply, the lower: a settings number with 21, 21 with 22, 22 with 23, 23 with 24, 24 with 25, and 25 in the last column
+-- with 26 in the first
 unfoldable pub order : List Case
 order =
     case (settings 6 1 100 10 191 0 12) (replicate 5 1000) (marks 0) drifts delays 6 9
@@ -126,12 +135,14 @@ order =
     ∷ case wall times (marks 0) (drift 5 1) (value 0 89) 6 25
     ∷ []
 
--- each case has its number
+-- §7.4 the number that a case's call is given
 unfoldable pub found : Case → ℕ
 found x = row-refusal (x .settings) (x .before) (x .call)
 
+-- §7.4 each of some cases is given its own number
 unfoldable pub Met : List Case → Type 0
 Met xs = map found xs ≡ map (λ x. x .number) xs
 
+-- §7.4 every case above is given its number
 unfoldable pub Refusals-met : Type 0
 Refusals-met = Met lengths × Met strays × Met late-times × Met crowds × Met fast-clocks × Met links × Met order

@@ -11,7 +11,7 @@ use Rattle.columns.specs.Marks.{marked}
 use Rattle.admission.specs.Call.{Call}
 use Rattle.admission.specs.Refusal.{row-refusal}
 
--- column k is a predecessor of a tile in column c: c itself, the columns beside it, and the third from an end for that end, and
+-- §1.3 column k is a predecessor of a tile in column c: c itself, the columns beside it, and the third from an end for that end, and
 -- the other way round
 pub data Hears (w c k : ℕ) : Type 0 where
   own : k ≡ c → Hears w c k
@@ -22,14 +22,14 @@ pub data Hears (w c k : ℕ) : Type 0 where
   third-last : c + 3 ≡ w → k + 1 ≡ w → Hears w c k
   last-third : c + 1 ≡ w → k + 3 ≡ w → Hears w c k
 
--- the link value to tile c from its predecessor k is number n of the row, counted tile after tile, senders from left to right: each tile has three,
--- and those in columns 2 and W - 3 have four
+-- §7.3 the link value to tile c from its predecessor k is number n of the row, counted tile after tile, senders from left to right:
+-- each tile has three, and those in columns 2 and W - 3 have four
 pub data Link-at (w c k n : ℕ) : Type 0 where
   to-first-three : c ≤ 2 → n ≡ 3 * c + k → Link-at w c k n
   to-others : 3 ≤ c → c + 3 ≤ w → n ≡ 2 * c + k + 2 → Link-at w c k n
   to-last-two : w ≤ c + 2 → n + w ≡ 3 * c + k + 5 → Link-at w c k n
 
--- marks, drifts and link values within their limits
+-- §7.4 marks, drifts and link values within their limits
 pub record Tile-limits (s : Settings) (marks drifts links : List ℕ) : Type 0 where
   -- no mark past the last column
   pub no-stray : (k : ℕ) → s .width ≤ k → marked marks k ≡ false
@@ -45,8 +45,8 @@ pub record Tile-limits (s : Settings) (marks drifts links : List ℕ) : Type 0 w
   pub arrival : (c k n : ℕ) → c < s .width → k < s .width → Hears (s .width) c k → Link-at (s .width) c k n → marked marks k ≡ true →
       (getD links n 0 ≤ 1099511627775) ⊎ (getD links n 0 ≡ 18446744073709551615)
 
--- a row call within its limits: W times of the row before, W / 8 rounded up bytes of marks, W drifts, 3W + 2 link values and W times
--- to be written; a correct tile's time is at most 2^40 - 1
+-- §7.4 a row call within its limits: W times of the row before, W / 8 rounded up bytes of marks, W drifts, 3W + 2 link values
+-- and room for W times; a correct tile's time is at most 2^40 - 1
 pub record Row-limits (s : Settings) (before : List ℕ) (x : Call) : Type 0 where
   pub settings : Limits s
   pub before-long : length before ≡ s .width
@@ -57,6 +57,6 @@ pub record Row-limits (s : Settings) (before : List ℕ) (x : Call) : Type 0 whe
   pub early : (c : ℕ) → c < s .width → marked (x .marks) c ≡ false → getD before c 0 ≤ 1099511627775
   pub tiles : Tile-limits s (x .marks) (x .drifts) (x .links)
 
--- a row call keeps its limits exactly where it is not turned away
+-- §7.4 a row call keeps its limits exactly where it is not turned away
 unfoldable pub Row-plain : Type 0
 Row-plain = (s : Settings) (before : List ℕ) (x : Call) → Row-limits s before x ↔ (row-refusal s before x ≡ 0)

@@ -12,31 +12,32 @@ use Rattle.admission.specs.Call.{Call}
 use Rattle.links.specs.Links.{latest-time, bad-links}
 use Rattle.columns.specs.Marks.{marked, mark-bytes, faulty-among}
 
--- 21: W times before, W / 8 rounded up bytes of marks, W drifts, 3W + 2 links, W times to be written
+-- §7.4 not 21: W times before, W / 8 rounded up bytes of marks, W drifts, 3W + 2 links, room for W times
 unfoldable pub lengths-are : (w before marks drifts links room : ℕ) → Bool
 lengths-are w before marks drifts links room =
     eqb before w && (eqb marks (mark-bytes w) && (eqb drifts w && (eqb links (3 * w + 2) && eqb room w)))
 
+-- §7.4 not 21, of what a call is lent
 unfoldable pub lengths-right : (w : ℕ) → (before : List ℕ) → Call → Bool
 lengths-right w ts x = lengths-are w (length ts) (length (x .marks)) (length (x .drifts)) (length (x .links)) (x .room)
 
--- 22: "a mark bit past the last column"
+-- §7.4 22: bit k is set, and there is no column k
 unfoldable pub stray-mark : (w : ℕ) → (marks : List ℕ) → (k : ℕ) → Bool
 stray-mark w ms k = leb w k && marked ms k
 
--- 23: "a correct tile's time over 2^40 - 1"
+-- §7.4 23: column c is correct, and its time over 2^40 - 1
 unfoldable pub late-time : (before marks : List ℕ) → (c : ℕ) → Bool
 late-time ts ms c = not (marked ms c) && ltb latest-time (getD ts c 0)
 
--- 24: "a tile with two faulty predecessors"
+-- §7.5 24: the ones among the marks of tile c's predecessors are two or more
 unfoldable pub crowded : (w : ℕ) → (marks : List ℕ) → (c : ℕ) → Bool
 crowded w ms c = ltb 1 (faulty-among ms (predecessors w c))
 
--- 25: "a drift over r"
+-- §7.4 25: the drift of tile c is over the limit
 unfoldable pub fast : (limit : ℕ) → (drifts : List ℕ) → (c : ℕ) → Bool
 fast r ds c = ltb r (getD ds c 0)
 
--- "Numbers 1 to 9, then 21 a wrong length; ..": the lowest number that applies anywhere in the row
+-- §7.4 the settings' number, then 21 to 26, each wherever in the row it applies
 unfoldable pub row-tests : Settings → (before : List ℕ) → Call → List Test
 row-tests s ts x =
     settings-refusal s when not (eqb (settings-refusal s) 0)
@@ -48,5 +49,6 @@ row-tests s ts x =
     ∷ 26 when any-below (s .width) (bad-links s (x .marks) (x .links))
     ∷ []
 
+-- §7.4 the number under which a row call is turned away, 0 where it is accepted
 unfoldable pub row-refusal : Settings → (before : List ℕ) → Call → ℕ
 row-refusal s ts x = first (row-tests s ts x)

@@ -6,13 +6,13 @@ use Prim.Native.Nat.{ℕ, _/_, _%_, _+_, _-_, _≤_, _<_}
 use lib.ListN.{getD}
 use Rattle.columns.specs.Marks.{marked}
 
--- a byte of marks that holds none, its columns before the last three
+-- §7.5 a byte of marks that holds none, its columns before the last three
 pub record Quiet (w : ℕ) (marks : List ℕ) (c : ℕ) : Type 0 where
   pub starts : c % 8 ≡ 0
   pub inside : c + 11 ≤ w
   pub none : getD marks (c / 8) 0 ≡ 0
 
--- eight tiles away from the ends, their predecessors correct
+-- §7.6 eight tiles away from the ends, their predecessors correct
 pub record Plain (w : ℕ) (marks : List ℕ) (c : ℕ) : Type 0 where
   pub later : 0 < c
   pub quiet : Quiet w marks c

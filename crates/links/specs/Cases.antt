@@ -6,11 +6,11 @@ use Prim.Native.Nat.{ℕ, _-_, _^_}
 use Rattle.settings.specs.Settings.{settings}
 use Rattle.links.specs.Links.{latest-time, bad-value}
 
--- whether they are bad
+-- §7.4 whether they are bad
 unfoldable pub bad : (faulty : Bool) → (values : List ℕ) → List Bool
 bad f vs = map (bad-value (settings 6 1 100 10 400 0 12) f) vs
 
--- a delay is from 90 to 100, and silence is none; a faulty arrival is at most 2^40 - 1, or silence
+-- §7.4 a delay is from 90 to 100, and silence is none; a faulty arrival is at most 2^40 - 1, or silence
 unfoldable pub Values-met : Type 0
 Values-met =
     (bad false (89 ∷ 90 ∷ 100 ∷ 101 ∷ 18446744073709551615 ∷ []) ≡ true ∷ false ∷ false ∷ true ∷ true ∷ [])

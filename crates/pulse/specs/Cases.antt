@@ -1,4 +1,4 @@
--- Pulses at numbers, worked out by hand from 01. The wall has W 6, d 100, u 10, A 400, r 0, h 12, all of the row before at 1000 and all
+-- Pulses at numbers, worked out by hand. The wall has W 6, d 100, u 10, A 400, r 0, h 12, all of the row before at 1000 and all
 -- delays 100, where a case does not say otherwise. Assumes nothing.
 use mathlib.Core.Path.{_≡_}
 use mathlib.Core.List.{List, [], _∷_}
@@ -11,19 +11,19 @@ use Rattle.admission.specs.Call.{call}
 use Rattle.admission.specs.Cases.{wall, times, time, drifts, drift, delays, marks}
 use Rattle.pulse.specs.Pulse.{pulse}
 
--- of tiles 0 to 5
+-- §7.6 the pulses of tiles 0 to 5
 unfoldable pub pulses : Settings → (before marks drifts links : List ℕ) → List ℕ
 pulses s ts ms ds ls = table-from 6 0 (pulse s ts (call ms ds ls 6))
 
--- column 3 is broken: what it sends to tiles 2, 3, 4 and 5
+-- §1.4 column 3 is broken: what it sends to tiles 2, 3, 4 and 5
 unfoldable pub sent : (a b c d : ℕ) → List ℕ
 sent a b c d = set (set (set (set delays 9 a) 11 b) 14 c) 17 d
 
--- the wall that 01 prints
+-- §14.4 the pulses of the printed wall
 unfoldable pub Printed-met : Type 0
 Printed-met = pulses wall (time 3 1080) (marks 0) drifts delays ≡ 1500 ∷ 1500 ∷ 1500 ∷ 1536 ∷ 1500 ∷ 1500 ∷ []
 
--- a broken tile whose arrivals are early, late or silent, where 1100 would be in time; and one whose links differ
+-- §1.4 a broken tile whose arrivals are early, late or silent, where 1100 would be in time; and one whose links differ
 unfoldable pub Broken-met : Type 0
 Broken-met =
     let silent : ℕ = 18446744073709551615 in
@@ -32,12 +32,12 @@ Broken-met =
     × (pulses wall times (marks 8) drifts (sent silent silent silent silent) ≡ 1500 ∷ 1500 ∷ 1500 ∷ 1536 ∷ 1500 ∷ 1500 ∷ [])
     × (pulses wall times (marks 8) drifts (sent 1000 silent 1300 1100) ≡ 1500 ∷ 1500 ∷ 1476 ∷ 1536 ∷ 1500 ∷ 1500 ∷ [])
 
--- its time is not read: its value is its arrival
+-- §3.2 its time is not read: its value is its arrival
 unfoldable pub Unread-met : Type 0
 Unread-met = pulses wall (time 3 9999) (marks 8) drifts (sent 1100 1100 1100 1100) ≡ replicate 6 1500
 
--- a drift is that of the tile that hears: 01's 1100, which reads 1111, with 1511 first met at 1497; and late enough for a sender's drift to
--- show, where column 0 alone drifts
+-- §3.3 a drift is that of the tile that hears: 1100 reads 1111, and 1511 is first met at 1497; and late enough for a sender's drift
+-- to show, where column 0 alone drifts
 unfoldable pub Drift-met : Type 0
 Drift-met =
     let wall = settings 6 1 100 10 400 10000 16 in

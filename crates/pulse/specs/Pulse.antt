@@ -11,23 +11,24 @@ use Rattle.columns.specs.Columns.{neighbours, link}
 use Rattle.admission.specs.Call.{Call}
 use Rattle.columns.specs.Marks.{marked}
 
--- "A link value is a delay from a correct sender, an arrival from a faulty one; 2^64 - 1 is silent."
--- "A pulse sent by a correct tile at t arrives at t plus the link's delay."
+-- §3.2 the arrival that a link value tells: the sender's time plus the delay, or from a faulty sender the value itself
 unfoldable pub arrives : (faulty : Bool) → (time value : ℕ) → Stamp
 arrives f t v = cond f (stamp-of v) (heard (t + v))
 
+-- §3.2 when the pulse of a sender arrives at a tile
 unfoldable pub arrival : (w : ℕ) → (before : List ℕ) → Call → (tile sender : ℕ) → Stamp
 arrival w ts x c k = arrives (marked (x .marks) k) (getD ts k 0) (link w (x .links) c k)
 
--- "A stamp is the reading at an arrival", by the receiver's clock
+-- §3.3 an arrival as the receiver's clock reads it
 unfoldable pub read-at : (drift phase : ℕ) → Stamp → Stamp
 read-at p q (heard a) = heard (reads p q a)
 read-at p q silent = silent
 
+-- §3.3 the stamp that a tile has of a sender
 unfoldable pub stamp : (w : ℕ) → (before : List ℕ) → Call → (tile sender : ℕ) → Stamp
 stamp w ts x c k = read-at (getD (x .drifts) c 0) 0 (arrival w ts x c k)
 
--- a tile's pulse, by the tile's own definition
+-- §7.6 a tile's pulse, by its stamps of own and of the neighbours
 unfoldable pub pulse : Settings → (before : List ℕ) → Call → (tile : ℕ) → ℕ
 pulse s ts x c =
     let w = s .width in

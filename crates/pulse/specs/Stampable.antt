@@ -9,7 +9,7 @@ use Rattle.links.specs.Links.{latest-time}
 use Rattle.columns.specs.Marks.{marked}
 use Rattle.pulse.specs.Pulse.{arrives, read-at}
 
--- what the code asks of a link before it reads it: what an accepted row has
+-- §3.2 what the code asks of a link before it reads it: what an accepted row has
 pub record Stampable (drift : ℕ) (before marks links : List ℕ) (sender place : ℕ) : Type 0 where
   pub slow : drift ≤ 10000
   pub in-row : sender < length before
@@ -18,6 +18,6 @@ pub record Stampable (drift : ℕ) (before marks links : List ℕ) (sender place
   pub delay : marked marks sender ≡ false → (getD before sender 0 ≤ latest-time) × (getD links place 0 ≤ 1000000)
   pub faulty : marked marks sender ≡ true → (getD links place 0 ≡ silence → ⊥) → getD links place 0 ≤ latest-time
 
--- its stamp, as a number
+-- §3.3 its stamp, as a number
 unfoldable pub stamped : (drift : ℕ) → (before marks links : List ℕ) → (sender place : ℕ) → ℕ
 stamped p ts ms ls k i = code-of (read-at p 0 (arrives (marked ms k) (getD ts k 0) (getD ls i 0)))

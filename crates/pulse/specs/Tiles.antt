@@ -16,16 +16,17 @@ use Rattle.admission.specs.Call.{Call}
 use Rattle.pulse.specs.Pulse.{stamp, pulse}
 use Rattle.admission.specs.Refusal.{row-refusal}
 
--- a stamp as its place holds it: a reading and a silence mark
+-- §6.1 a stamp's reading, as its place holds it
 unfoldable pub reading-of : Stamp → ℤ
 reading-of (heard a) = pos a
 reading-of silent = pos 0
 
+-- §6.1 a stamp's silence mark
 unfoldable pub silence-of : Stamp → Bool
 silence-of (heard a) = false
 silence-of silent = true
 
--- own's stamp and up to three neighbours'
+-- §6.1 own's stamp and up to three neighbours'
 unfoldable pub stamps-of : (own : Stamp) → (neighbours : List Stamp) → Stamps
 stamps-of own ns =
     let a = getD ns 0 silent in
@@ -37,10 +38,11 @@ stamps-of own ns =
       count = length ns;
     }
 
+-- §6.1 those of a tile of the row
 unfoldable pub tile-stamps : Settings → (before : List ℕ) → Call → (tile : ℕ) → Stamps
 tile-stamps s ts x c = stamps-of (stamp (s .width) ts x c c) (map (stamp (s .width) ts x c) (neighbours (s .width) c))
 
--- none of them is 11, 12 or 13, and the row's pulse is the tile's
+-- §7.6 in an accepted row no tile is 11, 12 or 13, and the row's pulse is the tile's
 unfoldable pub Tiles-accepted : Type 0
 Tiles-accepted =
     (s : Settings) (ts : List ℕ) (x : Call) (c : ℕ) → row-refusal s ts x ≡ 0 → c < s .width →

@@ -11,21 +11,22 @@ use Rattle.row.specs.Row.{planned, written}
 use Rattle.row.specs.declared.Planned.{Planned}
 use Rattle.row.specs.declared.Planned.the-variants.{Row, Refused}
 
+-- §7.6 a call's answer, and the row that held sevens afterwards
 unfoldable pub Plans : Settings → (before : List ℕ) → Call → Planned → (after : List ℕ) → Type 0
 Plans s ts x answer after = (planned s ts x ≡ answer) × (written s ts x (replicate 6 7) ≡ after)
 
--- the wall that 01 prints
+-- §14.4 the row of the printed wall
 unfoldable pub Printed-planned : Type 0
 Printed-planned =
     Plans wall (time 3 1080) (call (marks 0) drifts delays 6) (Row 1500 1536) (1500 ∷ 1500 ∷ 1500 ∷ 1536 ∷ 1500 ∷ 1500 ∷ [])
 
--- with r 10,000 and h 16: tiles that drift, late enough for it to show
+-- §7.6 with r 10,000 and h 16: tiles that drift, late enough for it to show
 unfoldable pub Drifting-planned : Type 0
 Drifting-planned =
     Plans (settings 6 1 100 10 400 10000 16) (replicate 6 1000000) (call (marks 0) (10000 ∷ 5000 ∷ 0 ∷ 0 ∷ 1 ∷ 9999 ∷ []) delays 6)
     (Row 1000496 1000500) (1000497 ∷ 1000498 ∷ 1000500 ∷ 1000500 ∷ 1000500 ∷ 1000496 ∷ [])
 
--- and with times, delays and drifts of all kinds, where column 3 is broken: early to tiles 2 and 5, silent to tile 3, late to tile 4
+-- §7.6 and with times, delays and drifts of all kinds, where column 3 is broken: early to tiles 2 and 5, silent to tile 3, late to tile 4
 unfoldable pub Broken-planned : Type 0
 Broken-planned =
     Plans (settings 6 1 100 10 400 10000 16) (1000 ∷ 1010 ∷ 1040 ∷ 1080 ∷ 1007 ∷ 990 ∷ [])
@@ -33,6 +34,6 @@ Broken-planned =
     (100 ∷ 91 ∷ 97 ∷ 90 ∷ 100 ∷ 95 ∷ 93 ∷ 90 ∷ 100 ∷ 1000 ∷ 90 ∷ 18446744073709551615 ∷ 95 ∷ 100 ∷ 1300 ∷ 100 ∷ 90 ∷ 1000 ∷ 99 ∷ 100 ∷ []) 6)
     (Row 1457 1574) (1500 ∷ 1504 ∷ 1507 ∷ 1574 ∷ 1503 ∷ 1457 ∷ [])
 
--- a row that is turned away
+-- §13.2 a row that is turned away
 unfoldable pub Refused-planned : Type 0
 Refused-planned = Plans wall times (call (marks 3) drifts delays 6) (Refused 24) (replicate 6 7)

@@ -6,7 +6,7 @@ use lib.ListN.{length, getD}
 use Rattle.columns.specs.Columns.{table-from}
 use Rattle.row.specs.Row.{least-of, most-of}
 
--- the first c places hold what f gives, and least and most are theirs
+-- §7.6 the first c places hold what f gives, and least and most are theirs
 pub record Filled-with-ends (f : ℕ → ℕ) (held times : List ℕ) (least most c : ℕ) : Type 0 where
   pub same : length times ≡ length held
   pub within : c ≤ length held

@@ -53,7 +53,7 @@ pub fn drifts(kind: u8, at_5: u64) -> [u32; 1024]
     all
 }
 
-// The link values by tile and then by sender: those of a faulty tile's row, or 1000 but at two places.
+// The link values, tile after tile: those of a faulty tile's row, or 1000 but at two places.
 pub fn links(kind: u8, n: Numbers) -> [u64; 1024]
     ensures { λ r. ⌜ 1024 ≡ length r ⌝ }
 {

@@ -1,5 +1,5 @@
--- 01's tile cases that are marked with a star, the corrections next to zero and silence, all with h 12; then its clock, its
--- limits and pulses. Each statement is proved in proofs/Cases.antt, under its name in small letters. Assumes nothing.
+-- The tile cases that have a star, the corrections next to zero and silence, all with h 12; then clocks, the
+-- limits of stamps and pulses. Each statement is proved in proofs/Cases.antt, under its name in small letters. Assumes nothing.
 use mathlib.Core.Path.{_≡_}
 use mathlib.Core.List.{List, [], _∷_}
 use mathlib.Core.Option.{Option, none, some}
@@ -11,7 +11,7 @@ use Rattle.rule.specs.Stamp.{Stamp, heard, silent, earliest, latest, lat
 use Rattle.rule.specs.Forward.{P, correction}
 use Rattle.rule.specs.Pulse.{tile-pulse}
 
--- a case: the drift limit r, the stamps, and P with the correction where 01 gives one
+-- §14.1 a case: the drift limit r, the stamps, and P with the correction where one is given
 pub record Case : Type 0 where
   pub r : ℕ
   pub own : Stamp
@@ -19,12 +19,15 @@ pub record Case : Type 0 where
   pub p : ℕ
   pub correction : Option ℤ
 
+-- §14.1 a case by r, the neighbours, own, P, and the correction if one is given
 unfoldable pub case : (r : ℕ) → (neighbours : List Stamp) → (own : Stamp) → (p : ℕ) → Option ℤ → Case
 case r ns own p c = record { r = r; own = own; neighbours = ns; p = p; correction = c }
 
+-- §14.1 two neighbours that are heard
 unfoldable pub stamps : (a b : ℕ) → List Stamp
 stamps a b = heard a ∷ heard b ∷ []
 
+-- §14.1 the starred cases, each with its P and, where one is given, its correction
 unfoldable pub starred : List Case
 starred =
     case 0 (stamps 100 100) (heard 100) 100 none
@@ -41,7 +44,7 @@ starred =
     ∷ case 10000 (stamps 100 100) (heard 137) 112 none
     ∷ []
 
--- a correction of -1, of 0 and of 1
+-- §4.3 a correction of -1, of 0 and of 1
 unfoldable pub around-zero : List Case
 around-zero =
     case 0 (stamps 100 100) (heard 63) 64 (some (negsuc 0))
@@ -49,7 +52,7 @@ around-zero =
     ∷ case 0 (stamps 100 100) (heard 113) 112 (some (pos 1))
     ∷ []
 
--- a late own beside a silent neighbour is not corrected, and an early one waits for the earliest of the other two; beside a
+-- §5.3 a late own beside a silent neighbour is not corrected, and an early one waits for the earliest of the other two; §5.2 beside a
 -- silent own the latest of three decides
 unfoldable pub with-silence : List Case
 with-silence =
@@ -58,32 +61,36 @@ with-silence =
     ∷ case 0 (heard 130 ∷ heard 100 ∷ heard 120 ∷ []) silent 166 none
     ∷ []
 
--- the rule as 01 writes it gives each case's P, and its correction where one is given
+-- §14.1 c is the correction that a case gives, if it gives one
 unfoldable pub Given : Option ℤ → Option ℤ → Type 0
 Given none c = Unit {0}
 Given (some z) c = c ≡ some z
 
+-- §14.1 the rule, with the step of the case's r, gives its P, and its correction where there is one
 unfoldable pub Meets : Case → Type 0
 Meets x =
     let j = step 12 (x .r) in
     (P 12 j (x .own) (earliest (x .neighbours)) (latest (x .neighbours)) ≡ pos (x .p))
     × Given (x .correction) (correction 12 j (x .own) (earliest (x .neighbours)) (latest (x .neighbours)))
 
+-- §14.1 each of some cases is met
 unfoldable pub Each-meets : List Case → Type 0
 Each-meets [] = Unit {0}
 Each-meets (x ∷ xs) = Meets x × Each-meets xs
 
+-- §14.1 each starred case is met by the rule as written
 unfoldable pub Starred-met : Type 0
 Starred-met = Each-meets starred
 
+-- §4.3 each case next to zero is met
 unfoldable pub Around-zero-met : Type 0
 Around-zero-met = Each-meets around-zero
 
--- and a silent own has no correction
+-- §5.2 each case with silence is met, and a silent own has no correction
 unfoldable pub Silence-met : Type 0
 Silence-met = Each-meets with-silence × (correction 12 24 silent (heard 100) (heard 130) ≡ none)
 
--- a clock of drift 10,000 and phase 0 reads 1111 at tick 1100 and just misses 1110 a tick before; it reads 1511 first at 1497,
+-- §14.2 a clock of drift 10,000 and phase 0 reads 1111 at tick 1100 and just misses 1110 a tick before; it reads 1511 first at 1497,
 -- and less at 1496. At drift 1 a tick in a million is gained, at drift 0 none.
 unfoldable pub Clock-cases : Type 0
 Clock-cases =
@@ -97,7 +104,7 @@ Clock-cases =
     × (reads 0 0 1100 ≡ 1100)
     × (first-tick 0 0 1511 ≡ 1511)
 
--- the latest stamp, and the number that stands for silence
+-- §6.1 2^64 - 1 stands for silence, and one less does not; the latest stamp (§6.2)
 unfoldable pub Stamp-limits : Type 0
 Stamp-limits =
     (latest-stamp ≡ 2 ^ 41 - 1)
@@ -107,7 +114,7 @@ Stamp-limits =
     × (code-of silent ≡ 2 ^ 64 - 1)
     × (code-of (heard 0) ≡ 0)
 
--- columns 0, 2 and 3 of 01's printed wall, where the hold is 400, and two starred cases there; with drift 10,000 the tick of
+-- §14.4 columns 0, 2 and 3 of the printed wall, where the hold is 400, and two starred cases there; with drift 10,000 the tick of
 -- 1111 + 400
 unfoldable pub Pulse-cases : Type 0
 Pulse-cases =

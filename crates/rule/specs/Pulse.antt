@@ -8,10 +8,10 @@ use Rattle.rule.specs.Stamp.{Stamp, earliest, latest}
 use Rattle.rule.specs.Forward.{P}
 use Rattle.settings.specs.declared.Settings.{Settings}
 
--- P of a tile's own stamp and its neighbours', as a reading: it is never below zero (`P-exact`)
+-- §4.3 P of a tile's own stamp and its neighbours', as a reading: it is never below zero (`P-exact`)
 unfoldable pub tile-P : Settings → (own : Stamp) → (neighbours : List Stamp) → ℕ
 tile-P s own ns = natural (P (s .unit) (step-of s) own (earliest ns) (latest ns))
 
--- "The tile pulses at the smallest t whose reading is at least P + A."
+-- §3.4 the tile's pulse: the first tick that reads P + A or more
 unfoldable pub tile-pulse : Settings → (drift phase : ℕ) → (own : Stamp) → (neighbours : List Stamp) → ℕ
 tile-pulse s p q own ns = first-tick p q (tile-P s own ns + s .hold)

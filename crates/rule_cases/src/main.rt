@@ -1,6 +1,6 @@
-// Runs document 01's tile, clock and settings cases, and a tile or settings for each number, through
-// the operations, as the file `stdin` lists them. Each line says what 01 gives and whether the
-// operation answered that.
+// Runs the cases of tiles, clocks and settings (§14.1 to §14.3), and a tile or settings for each
+// number, through the operations, as the file `stdin` lists them. Each line says what is asked for
+// and whether the operation answered that.
 use bytes::scan::find;
 use cases::Numbers;
 use libc::STDIN_FILENO;

@@ -1,4 +1,4 @@
--- The row operation's own contract is what demand 3 of the program goes by: `Post`, which the check makes of the clauses of
+-- The row operation's own contract is what `Program-one-fault` goes by: `Post`, which the check makes of the clauses of
 -- `plan`, is `Ensured`. Assumes nothing.
 use Rattle.runs.specs.Program.{Ensured}
 use Rattle.row.proofs.plan.Reads as plan

@@ -24,7 +24,7 @@ use Rattle.runs.proofs.Laws.Growth.{pulse-most}
 use Rattle.runs.proofs.Laws.Run.{Run, run-of, written-at}
 use Rattle.runs.proofs.Laws.Reach.{reach}
 
--- demand 3
+-- §12.3, whatever other tiles are faulty
 pub one-more-fault : One-more-fault
 unfolding One-more-fault
 one-more-fault s ts xs ys f k two = reach (run-of s xs ts) (run-of s ys ts) two

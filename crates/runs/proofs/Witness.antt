@@ -1,4 +1,4 @@
--- Two runs that meet the hypotheses of demand 3, their rows and their reach, by computing them. Assumes nothing.
+-- Two runs that meet the hypotheses of §12.3, their rows and their reach, by computing them. Assumes nothing.
 use mathlib.Core.Path.{_≡_, refl}
 use mathlib.Core.Bool.{Bool, true, false, not, _&&_, Bool·beq, true≢false}
 use mathlib.Core.List.{[], _∷_}

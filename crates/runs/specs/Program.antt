@@ -1,4 +1,4 @@
--- Demand 3 of the program: lists of calls of the row operation itself, known by its contract alone. Assumes nothing.
+-- The reach of a faulty tile, of the program: lists of calls of the row operation itself, known by its contract alone. Assumes nothing.
 use mathlib.Core.Path.{_≡_}
 use mathlib.Core.List.{List, [], _∷_}
 use Prim.Native.Nat.{ℕ}
@@ -9,12 +9,12 @@ use Rattle.row.specs.Row.{planned, written, number-of}
 use Rattle.runs.specs.Reach.{Alike, Alike-among, Two-runs, Reach}
 use Rattle.row.specs.declared.Planned.{Planned}
 
--- what `plan` ensures of a call: its answer, and what the lent row holds afterwards
+-- §13.4 what `plan` ensures of a call: its answer, and what the lent row holds afterwards
 pub record Ensured (s : Settings) (before marks drifts links held : List ℕ) (answer : Planned) (after : List ℕ) : Type 0 where
   pub answered : answer ≡ planned s before (call marks drifts links (length held))
   pub wrote : after ≡ written s before (call marks drifts links (length held)) held
 
--- a list of calls of `plan`, from a row on. Each is given the row that the last accepted one wrote; whether it is accepted is
+-- §11.1 calls of `plan`, from a row on. An accepted one hands the row that it wrote on to the next; whether it is accepted is
 -- taken from its answer, the row from what it wrote. `xs` are the accepted calls, `rs` their rows.
 pub data Calls (s : Settings) : (row : List ℕ) → (xs : List Call) → (rs : List (List ℕ)) → Type 0 where
   done : {ts : List ℕ} → Calls s ts [] []
@@ -24,13 +24,13 @@ pub data Calls (s : Settings) : (row : List ℕ) → (xs : List Call) → (rs : 
       Ensured s ts marks drifts links held answer after → number-of answer ≡ 0 → Calls s after xs rs →
       Calls s ts (call marks drifts links (length held) ∷ xs) (after ∷ rs)
 
--- the rows that a caller holds obey demand 3
+-- §12.3 the reach of one faulty tile, of the rows that a caller of `plan` holds
 unfoldable pub Program-one-fault : Type 0
 Program-one-fault =
     (s : Settings) (ts : List ℕ) (xs ys : List Call) (rs qs : List (List ℕ)) (f k : ℕ) → Calls s ts xs rs → Calls s ts ys qs →
     Two-runs Alike (s .width) f k xs ys → Reach s ts f k rs qs
 
--- .. and where other tiles are faulty too
+-- §12.3 the same where other tiles are faulty too
 unfoldable pub Program-one-more-fault : Type 0
 Program-one-more-fault =
     (s : Settings) (ts : List ℕ) (xs ys : List Call) (rs qs : List (List ℕ)) (f k : ℕ) → Calls s ts xs rs → Calls s ts ys qs →

@@ -1,5 +1,4 @@
--- A wave that starts later: "If all row 0 pulses and all faulty arrivals come n ticks later, each pulse of row L comes at most
--- n + L later." Assumes nothing.
+-- A wave that starts later: by how much its pulses can be later. Assumes nothing.
 use mathlib.Core.Path.{_≡_}
 use mathlib.Core.Bool.{true, false}
 use mathlib.Core.List.{List}
@@ -12,7 +11,7 @@ use Rattle.admission.specs.Call.{Call}
 use Rattle.columns.specs.Marks.{marked}
 use Rattle.runs.specs.Run.{accepted-calls, rows, call-at, row-at}
 
--- the accepted calls of two runs alike but for faulty arrivals, which come n later in the second
+-- §11.7 the accepted calls of two runs alike but for faulty arrivals, which come n later in the second
 pub record Later (w n : ℕ) (xs ys : List Call) : Type 0 where
   pub as-many : length xs ≡ length ys
   pub drifts : (l : ℕ) → l < length xs → call-at xs l .drifts ≡ call-at ys l .drifts
@@ -29,7 +28,7 @@ pub record Later (w n : ℕ) (xs ys : List Call) : Type 0 where
       (link w (call-at xs l .links) c j ≡ silence → ⊥) →
       (link w (call-at ys l .links) c j ≡ link w (call-at xs l .links) c j + n) × (link w (call-at ys l .links) c j ≡ silence → ⊥)
 
--- never earlier, and at most n + l later
+-- §11.7 with row 0 n later too, a pulse of row l is never earlier, and at most n + l later
 unfoldable pub Shift-bounded : Type 0
 Shift-bounded =
     (s : Settings) (ts us : List ℕ) (xs ys : List Call) (n : ℕ) → ((c : ℕ) → c < s .width → getD us c 0 ≡ getD ts c 0 + n) →

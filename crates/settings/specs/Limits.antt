@@ -5,7 +5,7 @@ use Prim.Native.Nat.{ℕ, _+_, _*_, _≤_, _<_}
 use Rattle.settings.specs.Settings.{settings-refusal}
 use Rattle.settings.specs.declared.Settings.{Settings}
 
--- W, R, d, u, A, r and h within their limits
+-- §2.1 W, R, d, u, A, r and h within their ranges, h as large as §2.2 asks and A as §2.3 does
 pub record Limits (s : Settings) : Type 0 where
   pub width : (6 ≤ s .width) × (s .width ≤ 256)
   pub rows : (1 ≤ s .rows) × (s .rows ≤ 1024)
@@ -22,6 +22,6 @@ pub record Limits (s : Settings) : Type 0 where
   pub cost : s .uncertainty + c + 2 ≤ s .unit
   pub held : 16 * s .unit ≤ s .hold
 
--- settings keep their limits exactly where they are not turned away
+-- §2.5 settings keep their limits exactly where they are not turned away
 unfoldable pub Settings-plain : Type 0
 Settings-plain = (s : Settings) → Limits s ↔ (settings-refusal s ≡ 0)

@@ -11,23 +11,25 @@ use Rattle.settings.specs.declared.Settings.{Settings}
 use Rattle.tile.specs.declared.Stamps.{Stamps}
 use Rattle.tile.specs.declared.Forwarded.the-variants.{Corrected, Uncorrected, Refused}
 
--- what stands at a place: a reading, one below zero, or a mark of silence beside a reading
+-- §6.1 what stands at a place: a reading, one below zero, or a mark of silence beside a reading
 pub data Place : Type 0 where
   heard : (reading : ℕ) → Place
   minus : (below : ℕ) → Place
   silent : (beside : ℕ) → Place
 
+-- §6.1 the reading there, whether it is marked or not
 unfoldable pub reading-in : Place → ℤ
 reading-in (heard n) = pos n
 reading-in (minus n) = negℤ (pos n)
 reading-in (silent n) = pos n
 
+-- §6.1 whether it is marked silent
 unfoldable pub marked-in : Place → Bool
 marked-in (heard n) = false
 marked-in (minus n) = false
 marked-in (silent n) = true
 
--- the count of neighbours, own's place and three neighbours'
+-- §6.1 the count of neighbours, own's place and three neighbours'
 unfoldable pub stamps : (count : ℕ) → (own a b c : Place) → Stamps
 stamps n own a b c =
     record {
@@ -36,16 +38,16 @@ stamps n own a b c =
       count = n;
     }
 
--- the settings of 01's tile cases: h 12, r 0
+-- §14.1 settings with h 12 and r 0
 unfoldable pub wall : Settings
 wall = settings 6 1 100 10 400 0 12
 
 infix 50 _is_
--- there, these stamps are given this number, which is 0 where they pass
+-- §6.2 there, these stamps are given this number, which is 0 where they pass
 unfoldable pub _is_ : Stamps → (number : ℕ) → Type 0
 x is n = tile-refusal wall x ≡ n
 
--- 11: two neighbours or three
+-- §6.2 11: two neighbours or three
 unfoldable pub Count-limits : Type 0
 Count-limits =
     stamps 0 (heard 100) (heard 100) (heard 100) (heard 100) is 11
@@ -54,7 +56,7 @@ Count-limits =
     × stamps 3 (heard 100) (heard 100) (heard 100) (heard 100) is 0
     × stamps 4 (heard 100) (heard 100) (heard 100) (heard 100) is 11
 
--- 12: at each place a stamp from 0 to 2^41 - 1; not read are what stands beside a mark of silence, and a place past the count
+-- §6.2 12: at each place a stamp from 0 to 2^41 - 1; not read are what stands beside a mark of silence, and a place past the count
 unfoldable pub Late-limits : Type 0
 Late-limits =
     let late = 2 ^ 41 in
@@ -77,7 +79,7 @@ Late-limits =
     × stamps 2 (heard 100) (heard 100) (heard 100) (heard late) is 0
     × stamps 2 (heard 100) (heard 100) (heard 100) (minus 1) is 0
 
--- 13: one silent place passes and two are refused, own's counting as the others'; a place past the count does not count
+-- §6.2 13: one silent place passes and two are refused, own's counting as the others'; a place past the count does not count
 unfoldable pub Silence-limits : Type 0
 Silence-limits =
     stamps 3 (silent 0) (heard 100) (heard 100) (heard 100) is 0
@@ -92,7 +94,7 @@ Silence-limits =
     × stamps 2 (silent 0) (heard 100) (silent 0) (heard 100) is 13
     × stamps 2 (silent 0) (heard 100) (heard 100) (silent 0) is 0
 
--- of all numbers that apply the lowest is given: here 8, 11, 12 and 13 apply, and then one after the other is mended
+-- §13.1 8, 11, 12 and 13 apply, and then one after the other is mended: each time the lowest that is left
 unfoldable pub Tile-order : Type 0
 Tile-order =
     (tile-refusal (settings 6 1 100 10 400 0 11) (stamps 4 (heard (2 ^ 41)) (silent 0) (silent 0) (heard 100)) ≡ 8)
@@ -104,7 +106,7 @@ Tile-order =
     × (tile-refusal (settings 6 1 100 10 191 0 12) (stamps 1 (heard 100) (heard 100) (heard 100) (heard 100)) ≡ 9)
     × (tile-refusal (settings 5 1 100 10 400 0 12) (stamps 3 (silent 0) (silent 0) (heard 100) (heard 100)) ≡ 1)
 
--- P and the correction of some of 01's cases, by two neighbours and by three; none where own is silent, and neither where the
+-- §14.1 P and the correction of some of the cases, by two neighbours and by three; none where own is silent, and neither where the
 -- tile is turned away
 unfoldable pub Answer-cases : Type 0
 Answer-cases =
@@ -120,7 +122,7 @@ Answer-cases =
     × (forwarded wall (stamps 2 (heard (2 ^ 41)) (heard 100) (heard 100) (heard 100)) ≡ Refused 12)
     × (forwarded wall (stamps 2 (silent 0) (silent 0) (heard 100) (heard 100)) ≡ Refused 13)
 
--- P and the correction at the ends of their ranges, with 3h 36
+-- §6.3 P and the correction at the ends of their ranges, with 3h 36
 unfoldable pub End-cases : Type 0
 End-cases =
     let most = 2 ^ 41 - 1 in

@@ -17,7 +17,7 @@ use Rattle.rule.specs.Pulse.{tile-P}
 use Rattle.settings.specs.declared.Settings.{Settings}
 use Rattle.tile.specs.declared.Stamps.{Stamps}
 
--- THE TILE. The answer's number is 01's; where it is 0 the answer has 01's P and correction
+-- §13.4 the answer has the tile's number; where that is 0 it has P and the correction of the rule
 unfoldable pub Tile-answered : Type 0
 Tile-answered =
     (s : Settings) (x : Stamps) → (number-of (forwarded s x) ≡ tile-refusal s x)
@@ -26,27 +26,28 @@ Tile-answered =
     × (correction-of (forwarded s x)
     ≡ correction (s .unit) (step-of s) (own-stamp x) (earliest (neighbour-stamps x)) (latest (neighbour-stamps x))))
 
--- places past the count, and stamps of silent places, don't matter
+-- §6.1 places past the count, and stamps of silent places, don't matter
 unfoldable pub Past-count : Type 0
 Past-count =
     (s : Settings) (x y : Stamps) → x .count ≡ y .count → ((k : ℕ) → k ≤ x .count → silent-at x k ≡ silent-at y k) →
     ((k : ℕ) → k ≤ x .count → silent-at x k ≡ false → reading-at x k ≡ reading-at y k) → forwarded s x ≡ forwarded s y
 
--- for accepted stamps P is from 0 to 2^41 - 1 + 3h
+-- §6.3 for accepted stamps P is from 0 to 2^41 - 1 + 3h
 unfoldable pub P-range : Type 0
 P-range =
     (s : Settings) (x : Stamps) → tile-refusal s x ≡ 0 → tile-P s (own-stamp x) (neighbour-stamps x) ≤ latest-stamp + 3 * s .unit
 
--- the correction, where there is one, is an i64 from -(2^41 - 1 - 3h) to 2^41 - 1 - 3h
+-- §6.3 the largest correction: 2^41 - 1 - 3h
 unfoldable pub correction-most : Settings → ℕ
 correction-most s = latest-stamp - 3 * s .unit
 
+-- §6.3 the correction, where there is one, is an i64 from -(2^41 - 1 - 3h) to 2^41 - 1 - 3h
 unfoldable pub Correction-range : Type 0
 Correction-range =
     (s : Settings) (x : Stamps) (c : ℤ) → correction-of (forwarded s x) ≡ some c →
     SFits w64 c × (negℤ (pos (correction-most s)) ≤ℤ c) × (c ≤ℤ pos (correction-most s))
 
--- and meets both ends under all settings that pass: where own is as late as can be and the neighbours at 0, and the other way
+-- §6.3 .. and meets both ends under all settings that pass: where own is as late as can be and the neighbours at 0, and the other way
 unfoldable pub Correction-ends : Type 0
 Correction-ends =
     (s : Settings) → settings-refusal s ≡ 0 →

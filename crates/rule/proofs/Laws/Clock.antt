@@ -48,7 +48,7 @@ module _ (p q : ℕ) where
   unfolding moves up
   moves-add n k = omega arith
 
-  -- the two halves of "the smallest tick that reads at least v"
+  -- the tick reads at least v, and no earlier one does
   pub first-reads : (v : ℕ) → v ≤ reads p q (first-tick p q v)
   unfolding reads
   first-reads v = omega (arith, first-reaches v)

@@ -1,4 +1,4 @@
--- 01's rule equals its closed form: D is own less the middle and h, and own less the correction is P. Assumes nothing.
+-- The rule as written equals its closed form: D is own less the middle and h, and own less the correction is P. Assumes nothing.
 use mathlib.Core.Path.{_≡_, refl, sym, _∙_, ap}
 use mathlib.Core.Bool.{Bool, true, false, cond, false≢true}
 use Prim.Native.Nat.{ℕ, zero, suc, _+_, _-_, _*_, _≤_, _<_, min, max}
@@ -137,7 +137,7 @@ module _ {h : ℕ} (pos-h : 0 < h) (j o : ℕ) {l m : ℕ} (ordered : l ≤ m) w
       (λ k. correction-hurries k ∙ sym (ap pos (hurries h j o l m k))))
       (λ i. correction-waits i ∙ sym (ap pos (waits h j o l m i)))
 
--- 01's P is the closed form, for all stamps
+-- P is the closed form, for all stamps
 pub rule-closed : {h : ℕ} → 0 < h → (j : ℕ) (own : Stamp) {least most : Stamp} → least ≼ most →
     P h j own least most ≡ pos (closed-P h j own least most)
 unfolding P closed-P

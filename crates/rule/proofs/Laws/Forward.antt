@@ -1,7 +1,7 @@
 -- P with silence: monotone in each stamp with silence last, moved by a shift of all, and bounded by the stamps of any
--- correct predecessors. What demand 3 and its companions cite. Assumes nothing.
+-- correct predecessors. What the reach of a faulty tile (§12.3) and its companions cite. Assumes nothing.
 --
--- Throughout: unit h, step j (01's J), own's stamp, the earliest and latest of the neighbours'.
+-- Throughout: unit h, step j (§2.4), own's stamp, the earliest and latest of the neighbours'.
 use mathlib.Core.Path.{_≡_}
 use mathlib.Core.List.{List}
 use Prim.Native.Nat.{ℕ, _+_, _-_, _*_, _≤_, _<_, min, max}

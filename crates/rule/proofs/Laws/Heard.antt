@@ -1,6 +1,6 @@
 -- P with all stamps heard: one lattice term, so monotone in each stamp, moved by a shift of all, and bounded on four sides. Assumes nothing.
 --
--- Throughout: unit h, step j (01's J), own o, the earliest and latest neighbour l ≤ m.
+-- Throughout: unit h, step j (§2.4), own o, the earliest and latest neighbour l ≤ m.
 use mathlib.Core.Path.{_≡_, sym, _∙_}
 use Prim.Native.Nat.{ℕ, _+_, _-_, _*_, _≤_, _<_, min, max}
 use native.Mathlib.Omega.{arith}

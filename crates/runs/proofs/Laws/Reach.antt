@@ -232,7 +232,7 @@ module _ {s : Settings} {ts : List ℕ} {xs ys : List Call} {rs qs : List (List 
   within zero c i j o = let never : ⊥ = omega arith in absurd never
   within (suc n) c i j o = omega (arith, inside (n - f) n c (omega arith) (omega arith) o)
 
-  -- demand 3, of the two runs: a bound that is at least this one, and hops that are at least these, follow by arithmetic
+  -- §12.3 of the two runs: a bound that is at least this one, and hops that are at least these, follow by arithmetic
   pub reach : Reach s ts f k rs qs
   unfolding apart reach-ticks
   reach =

@@ -48,7 +48,7 @@ one-more {s} {ts} {r} {x} {xs} {rs} e w run = record { as-many = ap suc (run .as
     writes zero i = unfold row-at call-at in sym w
     writes (suc l) i = rw (row-after ts r rs (suc l), row-after ts r rs l) (unfold call-at in run .writes l (omega arith))
 
--- "A call turned away changes nothing and counts for no row."
+-- §11.3 a refused call makes no row
 pub run-of : (s : Settings) (xs : List Call) (ts : List ℕ) → Run s ts (accepted-calls s xs ts) (rows s xs ts)
 unfolding accepted-calls rows
 run-of s [] ts = no-run s ts

@@ -26,7 +26,7 @@ unfolding first
 unhit n true ts e = let never : ⊥ = omega arith in absurd never
 unhit n false ts e = (refl, e)
 
--- a number found before comes first: "numbers 1 to 9, then"
+-- a number found before comes first: that of settings, before any other
 module _ (n : ℕ) (ts : List Test) where
   pub skip-given : n ≡ 0 → first ((n when not (eqb n 0)) ∷ ts) ≡ first ts
   unfolding first
