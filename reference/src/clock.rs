@@ -1,4 +1,4 @@
-//! "Clocks and links": a tile's reading at a true tick, and the first tick of a reading.
+//! Clocks (§3.1, §3.4): a tile's reading at a true tick, and the first tick of a reading.
 
 use crate::settings::MILLION;
 use crate::{divide_up, Tick};
@@ -22,7 +22,7 @@ mod tests {
     use crate::generate::rng::Rng;
 
     #[test]
-    fn the_drift_cases_of_the_paper() {
+    fn the_drift_cases_of_the_requirements() {
         assert_eq!(reading(1100, 10_000), 1111);
         assert_eq!(first_tick(1511, 10_000), 1497);
         assert_eq!(reading(1496, 10_000), 1510);

@@ -1,4 +1,4 @@
-//! "The wall file": its fields in their order, refusals 41 to 45, and the rows it describes.
+//! The wall file (§9.1 to §9.8): its fields in their order, refusals 41 to 45, and the rows it describes.
 
 use std::fmt;
 
@@ -9,7 +9,7 @@ use crate::{Refused, LATEST_START};
 /// A wall file was turned away: the number, and the byte offset that is printed with it.
 #[derive(Clone, Copy, Debug, PartialEq, Eq)]
 pub struct FileRefused {
-    /// The number of document 01.
+    /// The number.
     pub number: u8,
     /// The byte offset.
     pub at: usize,
@@ -47,8 +47,8 @@ struct Fields<'a> {
 }
 
 impl<'a> Fields<'a> {
-    /// Takes the field due, of this tag and length. The order is the paper's: 43 if under three bytes
-    /// are left, 41, 42, 43 for the body.
+    /// Takes the field due, of this tag and length. In their order (§9.7): 43 where tag and length are
+    /// cut short, 41, 42, 43 where the body is.
     fn take(&mut self, tag: u8, length: usize) -> Result<Field<'a>, FileRefused> {
         let at = self.at;
         let refused = |number| Err(FileRefused { number, at });
@@ -70,7 +70,7 @@ impl<'a> Fields<'a> {
         Ok(Field { at, body })
     }
 
-    /// After the last field: 44 at the first extra byte.
+    /// After the last field: 44 at the first byte too many.
     fn end(&self) -> Result<(), FileRefused> {
         if self.at < self.file.len() {
             return Err(FileRefused {
@@ -135,8 +135,8 @@ impl<E> From<FileRefused> for Stop<E> {
     }
 }
 
-/// Runs the wall of `file`. Row L, from row 0 on, is shown when row L + 1 is accepted, row R when the
-/// file has ended rightly, with no tile of it faulty.
+/// Runs the wall of `file`. Row L, from row 0 on, is shown when row L + 1 is accepted, row R at the file's
+/// proper end, with no tile of it faulty.
 pub fn walk<E>(
     file: &[u8],
     mut show: impl FnMut(ShownRow) -> Result<(), E>,
@@ -176,7 +176,7 @@ pub fn walk<E>(
     show(shown).map_err(Stop::Shown)
 }
 
-/// Tag 1: W, R (2 bytes each), d, u, A, r, h (4 each).
+/// Tag 1: W and R in 2 bytes each, then d, u, A, r and h in 4.
 fn take_settings(fields: &mut Fields) -> Result<Wall, FileRefused> {
     let field = fields.take(1, 24)?;
     let mut values = Values(field.body);
@@ -214,7 +214,7 @@ struct RowFields<'a> {
     links: Vec<u64>,
 }
 
-/// Tag 3: marks of the row before. Tag 4: per tile a 2-byte drift and then 8-byte link values.
+/// Tag 3: the marks. Tag 4: tile by tile the drift in 2 bytes, then its link values in 8 bytes each.
 fn take_row<'a>(fields: &mut Fields<'a>, wall: &Wall) -> Result<RowFields<'a>, FileRefused> {
     let shape = wall.shape();
     let w = shape.columns();

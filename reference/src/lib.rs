@@ -1,8 +1,7 @@
-//! A plain reference for document 01, the pulse planner for detector walls.
+//! A plain reference for the requirements (docs/REQUIREMENTS.md) of the pulse planner for detector walls.
 //!
-//! Each module renders one part of the document, in its order and words: settings, clocks, the
-//! forwarding rule, the tile, the wall's shape, the row, the seam, the wall file and its printing, and
-//! how far a faulty tile reaches.
+//! Each module renders one section of them: settings, clocks, the forwarding rule, the tile, the wall's
+//! shape, the row, the seam, the wall file and its printing, and how far a faulty tile reaches.
 //! All sums are made in 128-bit signed numbers, far from any overflow. `generate` and `cases` are no part of
 //! the reference: they make wall files to compare programs on.
 
@@ -36,7 +35,7 @@ pub const LATEST_ARRIVAL: u64 = (1 << 40) - 1;
 /// The latest stamp and the latest time in a seam, 2^41 - 1.
 pub const LATEST_STAMP: u64 = (1 << 41) - 1;
 
-/// An operation was turned away, with this number of document 01.
+/// An operation was turned away, with this number of the requirements.
 #[derive(Clone, Copy, Debug, PartialEq, Eq, PartialOrd, Ord)]
 pub struct Refused(pub u8);
 

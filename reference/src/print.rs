@@ -1,4 +1,4 @@
-//! What the program prints for a wall file: `t` and `s` lines of each row, and a refusal's line.
+//! What is printed of a wall file (§10.1 to §10.4): `t` and `s` lines of each row, and a refusal's line.
 
 use std::io::{self, Write};
 
@@ -6,8 +6,8 @@ use crate::file::{walk, FileRefused, ShownRow, Stop};
 use crate::seam::{seam, Pulse, Seam, Side};
 use crate::shape::is_marked;
 
-/// Runs the wall of `file` and prints what document 01's `wallrun` prints, also a refusal, which is
-/// answered as well. The error is one of `out`.
+/// Runs the wall of `file` and prints what `wallrun` prints, also a refusal, which is answered as well.
+/// The error is one of `out`.
 pub fn wallrun(file: &[u8], out: &mut impl Write) -> io::Result<Option<FileRefused>> {
     match walk(file, |row| print_row(&row, out)) {
         Ok(()) => Ok(None),

@@ -1,4 +1,4 @@
-//! "Row": one row of a wall from the row before, with refusals 21 to 26.
+//! One row (§7.1 to §7.6) from the row before, with refusals 21 to 26.
 
 use crate::clock::{first_tick, reading};
 use crate::settings::Settings;
@@ -15,8 +15,8 @@ pub struct Lent<'a> {
     pub marks: &'a [u8],
     /// W drifts.
     pub drifts: &'a [u16],
-    /// By tile and then by sender column: a delay from a correct sender, an arrival or silence from
-    /// a faulty one.
+    /// The link values of each tile, its senders ascending: the link's delay where the sender is correct,
+    /// an arrival or silence where it is faulty.
     pub links: &'a [u64],
 }
 
@@ -101,7 +101,7 @@ impl Wall {
             && written_length == w
     }
 
-    /// A tile's predecessors' marks, gathered into a byte, and the ones among those bits counted.
+    /// How many predecessors of a tile are marked: their marks as bits of a byte, of which the ones are counted.
     fn faulty_predecessors(&self, lent: &Lent, column: usize) -> u32 {
         let predecessors = self.shape.predecessors(column).iter();
         let gathered = predecessors.fold(0u8, |byte, &sender| {
@@ -121,7 +121,7 @@ impl Wall {
         }
     }
 
-    /// When the tile in `column` pulses: the smallest tick whose reading is at least P + A.
+    /// When the tile in `column` pulses: at the first tick at which its clock reads P + A or more.
     fn time(&self, lent: &Lent, column: usize) -> u64 {
         let stamps = self.stamps(lent, column);
         let answer = tile(&self.settings, &stamps).expect("an accepted row admits each tile");

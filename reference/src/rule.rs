@@ -1,4 +1,4 @@
-//! "The forwarding rule": from a tile's stamps to P and the correction, with the silent cases.
+//! The forwarding rule and silence (§4.1 to §5.3): from a tile's stamps to P and the correction.
 
 use crate::Tick;
 
@@ -7,11 +7,11 @@ use crate::Tick;
 pub struct Answer {
     /// The reading P; the tile pulses A later by its clock.
     pub p: Tick,
-    /// Own minus P, below zero where the tile waits.
+    /// The correction, own - P: negative where the tile waits.
     pub correction: Option<Tick>,
 }
 
-/// The larger of own - max + 8hs and own - min - 8hs, for one s.
+/// What one s gives: own - max + 8hs or own - min - 8hs, whichever is larger.
 fn larger_at(own: Tick, min: Tick, max: Tick, h: Tick, s: Tick) -> Tick {
     (own - max + 8 * h * s).max(own - min - 8 * h * s)
 }

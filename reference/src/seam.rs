@@ -1,4 +1,4 @@
-//! "Seams": two neighbouring tiles of one row, and refusal 31.
+//! Seams (§8.1 to §8.4): two neighbouring tiles of one row, and refusal 31.
 
 use crate::{refuse_if, Refused, LATEST_STAMP};
 
@@ -20,12 +20,12 @@ pub enum Seam {
     Open(Side),
 }
 
-/// The midpoint and the half gap, which travel together.
+/// What a closed seam has: midpoint and half gap.
 #[derive(Clone, Copy, Debug, PartialEq)]
 pub struct Closing {
     /// Half the sum of both times.
     pub midpoint: f64,
-    /// Half of right time minus left time; plus zero where both are the same.
+    /// Half of right less left; +0 where both are the same.
     pub half_gap: f64,
 }
 
@@ -53,7 +53,7 @@ pub fn seam(left: Pulse, right: Pulse) -> Result<Seam, Refused> {
 }
 
 /// Sum and difference as whole numbers below 2^42, which 64-bit floats hold exactly, each halved
-/// exactly. The whole difference 0 becomes plus zero.
+/// exactly. The whole difference 0 becomes +0.
 fn closing(left: u64, right: u64) -> Closing {
     let (left, right) = (left as i64, right as i64);
     Closing {

@@ -1,4 +1,4 @@
-//! "Settings": the seven numbers of a wall, their ranges and refusals 1 to 9.
+//! Settings (§2.1 to §2.6): the seven numbers of a wall, their ranges and refusals 1 to 9.
 
 use crate::{divide_up, refuse_if, Refused, Tick};
 
@@ -46,7 +46,7 @@ impl Numbers {
     }
 }
 
-/// A settings record, handed out only after the checks have passed.
+/// Settings that pass, as a record.
 #[derive(Clone, Copy, Debug, PartialEq, Eq)]
 pub struct Settings {
     numbers: Numbers,
@@ -59,13 +59,13 @@ impl Settings {
         Ok(Settings { numbers })
     }
 
-    /// A record that no check has seen, to test that each operation repeats the checks.
+    /// A record that no check has seen, to test that each operation checks again.
     #[cfg(test)]
     pub(crate) fn unchecked(numbers: Numbers) -> Settings {
         Settings { numbers }
     }
 
-    /// The checks once more, as each operation given a record repeats them.
+    /// The checks once more, with which each operation that is handed a record begins.
     pub fn check(&self) -> Result<(), Refused> {
         self.numbers.check()
     }
@@ -126,7 +126,7 @@ mod tests {
     }
 
     #[test]
-    fn the_settings_cases_of_the_paper() {
+    fn the_settings_cases_of_the_requirements() {
         let fast = Numbers {
             drift_limit: 10_000,
             ..PRINTED

@@ -1,4 +1,4 @@
-//! "The wall and its words": neighbours, predecessors, links and seams of a wall of W columns.
+//! The wall (§1.1, §1.3, §7.3, §8.1): neighbours, predecessors, links and seams of W columns.
 
 /// True where columns `a` and `b` of a wall of `w` columns are neighbours.
 pub fn are_neighbours(w: usize, a: usize, b: usize) -> bool {
@@ -68,7 +68,7 @@ impl Shape {
     }
 }
 
-/// True where the marks name `column` as faulty: one bit a column, column 0 lowest in the first byte.
+/// True where `column` has its bit set in the marks, the lowest column of a byte the lowest bit.
 pub fn is_marked(marks: &[u8], column: usize) -> bool {
     marks[column / 8] >> (column % 8) & 1 == 1
 }

@@ -1,21 +1,21 @@
-//! "Tile": a tile's stamps, refusals 11 to 13, and the rule's answer for them.
+//! One tile (§6.1 to §6.3): its stamps, refusals 11 to 13, and the rule's answer for them.
 
 use crate::rule::{forward, Answer};
 use crate::settings::Settings;
 use crate::{refuse_if, Refused, Tick, LATEST_STAMP};
 
-/// A tile's stamps: own, three neighbour places and a count. `None` is silent.
+/// A tile's stamps: own's, its neighbours' in three places, and how many of these are in use. `None` is silent.
 #[derive(Clone, Copy, Debug, PartialEq, Eq)]
 pub struct Stamps {
     /// The stamp of own.
     pub own: Option<Tick>,
-    /// The neighbours' stamps; places past the count are not read.
+    /// The neighbours' stamps; a place behind the count is never read.
     pub neighbours: [Option<Tick>; 3],
     /// How many neighbours there are, 2 or 3.
     pub count: usize,
 }
 
-/// The tile operation: P and the correction or its absence, or the lowest number that applies.
+/// The tile operation: what the rule gives, or the lowest number that applies.
 pub fn tile(settings: &Settings, stamps: &Stamps) -> Result<Answer, Refused> {
     settings.check()?;
     refuse_if(!(2..=3).contains(&stamps.count), 11)?;

@@ -5,25 +5,26 @@ use Prim.Native.Nat.{ℕ}
 use Rattle.fields.specs.Bytes.{big-endian}
 use Rattle.fields.specs.Field.{field-refusal, body}
 
--- the first byte is the highest, from any place on
+-- §9.1 the first byte is the highest, from any place on
 unfoldable pub Big-endian-met : Type 0
 Big-endian-met =
     (big-endian 2 (1 ∷ 2 ∷ []) 0 ≡ 258) × (big-endian 4 (9 ∷ 0 ∷ 1 ∷ 0 ∷ 2 ∷ []) 1 ≡ 65538)
     × (big-endian 8 (0 ∷ 0 ∷ 1 ∷ 0 ∷ 0 ∷ 0 ∷ 0 ∷ 2 ∷ []) 0 ≡ 1099511627778)
 
--- the body begins behind tag and length, and is as long as is due
+-- §9.1 the body begins behind tag and length, and is as long as is due
 unfoldable pub Body-met : Type 0
 Body-met = body 2 (3 ∷ 0 ∷ 2 ∷ 5 ∷ 6 ∷ 7 ∷ []) ≡ 5 ∷ 6 ∷ []
 
--- what is left of a file where tag 3 with a body of 2 bytes is due, and the number of the field, 0 where it is there
+-- §9.7 what is left of a file where tag 3 with a body of 2 bytes is due, and the number of the field, 0 where it is there
 pub record Case : Type 0 where
   pub number : ℕ
   pub rest : List ℕ
 
+-- §9.7 a case by its number and bytes
 unfoldable pub case : (number : ℕ) → (rest : List ℕ) → Case
 case n bs = record { number = n; rest = bs }
 
--- 43 where tag and length are not there, then 41, 42, and 43 again where the body is not
+-- §9.7 43 where tag and length are not there, then 41, 42, and 43 again where the body is not
 unfoldable pub field-cases : List Case
 field-cases =
     -- under three bytes: 43, also where the tag is another
@@ -46,5 +47,6 @@ field-cases =
     ∷ case 0 (3 ∷ 0 ∷ 2 ∷ 5 ∷ 6 ∷ 9 ∷ [])
     ∷ []
 
+-- §9.7 each is answered with its number
 unfoldable pub Field-cases-met : Type 0
 Field-cases-met = map (λ x. field-refusal 3 2 (x .rest)) field-cases ≡ map (λ x. x .number) field-cases

@@ -1,4 +1,4 @@
-// A field of a wall file: a one-byte tag, a two-byte length, a body.
+// A field of a wall file: tag, length and body.
 pub mod bytes;
 
 use crate::bytes::two;

@@ -1,5 +1,5 @@
--- Whole wall files, byte by byte, and what is printed of them, line by line: the wall that 01 prints, and a wall with a silent faulty
--- tile and drifts. Assumes nothing.
+-- Whole wall files, byte by byte, and what is printed of them, line by line: the wall of the requirements, and one with a silent faulty tile
+-- and drifts. Assumes nothing.
 use mathlib.Core.Path.{_≡_}
 use mathlib.Core.List.{List, [], _∷_, _++_}
 use Prim.Native.Char.{code}
@@ -9,20 +9,21 @@ use Prim.Native.String.{String}
 use lib.ListN.{length, take, drop}
 use Rattle.file.specs.File.{wall-text}
 
--- the characters of a text as numbers, and of lines that each end with a line feed
+-- §10.2 the characters of a text as numbers
 unfoldable pub codes : String → List ℕ
 codes string.[] = []
 codes (string._∷_ c s) = code c ∷ codes s
 
+-- §10.2 those of lines that each end with a line feed
 unfoldable pub printed : List String → List ℕ
 printed [] = []
 printed (s ∷ ss) = codes s ++ (10 ∷ printed ss)
 
--- a file with other bytes from a place on
+-- §9.1 a file with other bytes from a place on
 unfoldable pub put : (at : ℕ) → (bytes file : List ℕ) → List ℕ
 put at bs file = take at file ++ bs ++ drop (at + length bs) file
 
--- the wall that 01 prints
+-- §14.4 the file of this wall
 unfoldable pub printed-file : List ℕ
 printed-file =
     -- tag 1: W 6, R 1; d 100, u 10, A 400, r 0, h 12
@@ -44,6 +45,7 @@ printed-file =
     ++ (0 ∷ 0 ∷ 0 ∷ 0 ∷ 0 ∷ 0 ∷ 0 ∷ 0 ∷ 0 ∷ 100 ∷ 0 ∷ 0 ∷ 0 ∷ 0 ∷ 0 ∷ 0 ∷ 0 ∷ 100 ∷ 0 ∷ 0 ∷ 0 ∷ 0 ∷ 0 ∷ 0 ∷ 0 ∷ 100 ∷ [])
     ++ (0 ∷ 0 ∷ 0 ∷ 0 ∷ 0 ∷ 0 ∷ 0 ∷ 0 ∷ 0 ∷ 100 ∷ 0 ∷ 0 ∷ 0 ∷ 0 ∷ 0 ∷ 0 ∷ 0 ∷ 100 ∷ 0 ∷ 0 ∷ 0 ∷ 0 ∷ 0 ∷ 0 ∷ 0 ∷ 100 ∷ [])
 
+-- §14.4 what is printed of it
 unfoldable pub Printed-whole : Type 0
 Printed-whole =
     wall-text printed-file
@@ -63,11 +65,11 @@ Printed-whole =
     ∷ "s 1 4 5 4097700000000000 0000000000000000"
     ∷ [])
 
--- with a byte more its last row is not shown
+-- §9.6 with a byte more its last row is not shown
 unfoldable pub Byte-more : Type 0
 Byte-more = wall-text (printed-file ++ (0 ∷ [])) ≡ printed ("refused 44 at 257" ∷ [])
 
--- a wall of two rows whose clocks drift, with a faulty tile in row 1
+-- §1.4 a wall of two rows whose clocks drift, with a faulty tile in row 1
 unfoldable pub faulty-file : List ℕ
 faulty-file =
     -- tag 1: W 6, R 2; d 100, u 10, A 400, r 10000, h 16
@@ -99,6 +101,7 @@ faulty-file =
     ++ (4 ∷ 210 ∷ 0 ∷ 0 ∷ 0 ∷ 0 ∷ 0 ∷ 0 ∷ 0 ∷ 94 ∷ 0 ∷ 0 ∷ 0 ∷ 0 ∷ 0 ∷ 0 ∷ 0 ∷ 96 ∷ 0 ∷ 0 ∷ 0 ∷ 0 ∷ 0 ∷ 0 ∷ 0 ∷ 98 ∷ [])
     ++ (19 ∷ 136 ∷ 0 ∷ 0 ∷ 0 ∷ 0 ∷ 0 ∷ 0 ∷ 0 ∷ 99 ∷ 0 ∷ 0 ∷ 0 ∷ 0 ∷ 0 ∷ 0 ∷ 0 ∷ 90 ∷ 0 ∷ 0 ∷ 0 ∷ 0 ∷ 0 ∷ 0 ∷ 0 ∷ 92 ∷ [])
 
+-- §10.1 the lines of its row 1
 unfoldable pub first-lines : List String
 first-lines =
     "t 1 0 1490"
@@ -116,6 +119,7 @@ first-lines =
     ∷ "s 1 4 5 4097440000000000 4008000000000000"
     ∷ []
 
+-- §10.1 the lines of its row 2
 unfoldable pub second-lines : List String
 second-lines =
     "t 2 0 1976"
@@ -133,13 +137,14 @@ second-lines =
     ∷ "s 2 4 5 409ef60000000000 3fe0000000000000"
     ∷ []
 
+-- §10.1 these are printed of it
 unfoldable pub Faulty-printed : Type 0
 Faulty-printed = wall-text faulty-file ≡ printed (first-lines ++ second-lines)
 
--- a drift of 10001 in row 2, which is 25, and row 1 is not shown
+-- §10.1 a drift of 10001 in row 2, which is 25, and row 1 is not shown
 unfoldable pub Second-row-refused : Type 0
 Second-row-refused = wall-text (put 350 (39 ∷ 17 ∷ []) faulty-file) ≡ printed ("refused 25 at 261" ∷ [])
 
--- with a byte more row 1 is shown and row 2 is not
+-- §10.1 with a byte more row 1 is shown and row 2 is not
 unfoldable pub Faulty-byte-more : Type 0
 Faulty-byte-more = wall-text (faulty-file ++ (3 ∷ [])) ≡ printed (first-lines ++ ("refused 44 at 436" ∷ []))

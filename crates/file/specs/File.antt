@@ -12,8 +12,8 @@ use Rattle.steps.specs.Shown.{Shown, turned-away, row-shown, no-marks}
 use Rattle.show.specs.Text.{texts-of}
 use Rattle.steps.specs.Number.{settings-number, start-number, row-number, row-offset}
 
--- n rows after row l, whose times are given. "Row L is printed when the next row is accepted, the last when the file has ended
--- rightly." "44 bytes after the last", at "the first extra byte".
+-- §10.1 what is shown of n rows after row l, whose times are given: row l once the next is accepted or the file has ended as it should, and then
+-- the rest; or the refusal
 unfoldable pub rows-shown : Settings → (n l at : ℕ) → (row rest : List ℕ) → List Shown
 rows-shown s zero l at ts bs = cond (eqb (length bs) 0) (row-shown s l (no-marks (s .width)) ts) (turned-away 44 at ∷ [])
 rows-shown s (suc n) l at ts bs =
@@ -22,6 +22,7 @@ rows-shown s (suc n) l at ts bs =
     (row-shown s l (marks-in w bs) ts ++ rows-shown s n (suc l) (at + row-size w) (row-of s ts (call-in w bs)) (drop (row-size w) bs))
     (turned-away (row-number s ts bs) (row-offset s at bs) ∷ [])
 
+-- §9.3 what is shown of a file from tag 2 on
 unfoldable pub start-shown : Settings → (at : ℕ) → (rest : List ℕ) → List Shown
 start-shown s at bs =
     let size = start-size (s .width) in
@@ -29,6 +30,7 @@ start-shown s at bs =
     (rows-shown s (s .rows) 0 (at + (3 + size)) (times-in (s .width) (body size bs)) (drop (3 + size) bs))
     (turned-away (start-number s bs) at ∷ [])
 
+-- §9.7 what is shown of a file: it is judged from tag 1 on, and a refusal ends it
 unfoldable pub shown : (file : List ℕ) → List Shown
 shown bs =
     let size = settings-size in
@@ -36,6 +38,6 @@ shown bs =
     (start-shown (settings-in (body size bs)) (3 + size) (drop (3 + size) bs))
     (turned-away (settings-number bs) 0 ∷ [])
 
--- what `wallrun` prints of a file
+-- §16.4 what `wallrun` prints of a file
 unfoldable pub wall-text : (file : List ℕ) → List ℕ
 wall-text bs = texts-of (shown bs)

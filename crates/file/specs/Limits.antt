@@ -12,46 +12,49 @@ use Rattle.fields.specs.Limits.{Field-there}
 use Rattle.contents.specs.Contents.{settings-size, settings-in, start-size, times-in, row-size, call-in}
 use Rattle.steps.specs.Shown.{Shown, row-shown, no-marks}
 
--- the settings, the row 0 times and the row calls that a file describes
+-- §9.2 the settings that a file describes
 unfoldable pub settings-of : (file : List ℕ) → Settings
 settings-of bs = settings-in (body settings-size bs)
 
+-- §9.3 the file from tag 2 on
 unfoldable pub after-settings : (file : List ℕ) → List ℕ
 after-settings bs = drop (3 + settings-size) bs
 
+-- §9.3 the times of row 0 that it describes
 unfoldable pub start-of : (file : List ℕ) → List ℕ
 start-of bs =
     let w = settings-of bs .width in
     times-in w (body (start-size w) (after-settings bs))
 
+-- §9.4 the file from the first tag 3 on
 unfoldable pub after-start : (file : List ℕ) → List ℕ
 after-start bs = drop (3 + start-size (settings-of bs .width)) (after-settings bs)
 
+-- §11.8 the row calls of n rows, in the file from a tag 3 on
 unfoldable pub calls-in : (w n : ℕ) → (rest : List ℕ) → List Call
 calls-in w zero bs = []
 calls-in w (suc n) bs = call-in w bs ∷ calls-in w n (drop (row-size w) bs)
 
+-- §11.8 all row calls that a file describes
 unfoldable pub calls-of : (file : List ℕ) → List Call
 calls-of bs = calls-in (settings-of bs .width) (settings-of bs .rows) (after-start bs)
 
--- the rows of a file: those of its run, in the sense of demand 3
+-- §11.8 the rows of a file: those of the run of its calls
 unfoldable pub rows-of : (file : List ℕ) → List (List ℕ)
 rows-of bs = rows (settings-of bs) (calls-of bs) (start-of bs)
 
--- the limits of a row: its two fields are there, tag 3 with W / 8 rounded up bytes and tag 4 with 26W + 16, and what they hold is
--- within its limits
+-- §12.1 the limits of a row: both of its fields are there, and what they hold is within its limits
 pub record Row-keeps (s : Settings) (rest : List ℕ) : Type 0 where
   pub marks-there : Field-there 3 ((s .width + 7) / 8) rest
   pub tiles-there : Field-there 4 (26 * s .width + 16) (drop (3 + (s .width + 7) / 8) rest)
   pub within : Tile-limits s (call-in (s .width) rest .marks) (call-in (s .width) rest .drifts) (call-in (s .width) rest .links)
 
--- of n rows, with nothing after the last
+-- §12.1 the limits of n rows, with nothing after the last
 pub data Rows-keep (s : Settings) : (n : ℕ) → (rest : List ℕ) → Type 0 where
   over : Rows-keep s 0 []
   and-then : {n : ℕ} {rest : List ℕ} → Row-keeps s rest → Rows-keep s n (drop (row-size (s .width)) rest) → Rows-keep s (suc n) rest
 
--- a wall that keeps every limit: tag 1 with 24 bytes, settings within their limits, tag 2 with 8W bytes, row 0 times up to
--- 2^39 - 1, and R rows
+-- §12.1 a wall within all limits: its settings, row 0 and R rows are there and within theirs
 pub record Keeps (file : List ℕ) : Type 0 where
   pub settings-there : Field-there 1 24 file
   pub settings-within : Limits (settings-of file)
@@ -59,7 +62,7 @@ pub record Keeps (file : List ℕ) : Type 0 where
   pub start-early : (c : ℕ) → c < settings-of file .width → getD (start-of file) c 0 ≤ 549755813887
   pub rows-keep : Rows-keep (settings-of file) (settings-of file .rows) (after-start file)
 
--- the rows of a run, from row l on, each shown with the marks that come with the next, the last without
+-- §10.1 the rows of a run, from row l on, each shown with the marks that come with the next, the last without
 unfoldable pub run-shown : Settings → (l : ℕ) → (calls : List Call) → (row : List ℕ) → (rest : List (List ℕ)) → List Shown
 run-shown s l [] ts rs = row-shown s l (no-marks (s .width)) ts
 run-shown s l (x ∷ xs) ts [] = []

@@ -20,33 +20,33 @@ use Rattle.steps.specs.Step.{steps-shown}
 use Rattle.file.specs.Limits.{settings-of, start-of, calls-of, rows-of, Keeps, run-shown}
 use Rattle.stages.specs.declared.Wall.the-variants.{New}
 
--- running the steps over any bytes, whatever the row held, shows what the definition of the whole shows, and 1,027 steps are
--- enough
+-- §17.3 running the steps over any bytes, whatever the row held, shows what the definition of the whole shows, and 1,027 steps are enough
 unfoldable pub Steps-right : Type 0
 Steps-right = (n : ℕ) (row file : List ℕ) → 1026 < n → steps-shown n New row file ≡ shown file
 
--- demand 1: "A wall description that keeps every limit is accepted and run to its last row."
+-- §12.1 a wall within all limits is accepted, and the rows of its run are shown
 unfoldable pub Accepted-whole : Type 0
 Accepted-whole =
     (file : List ℕ) → Keeps file →
     shown file ≡ run-shown (settings-of file) 0 (calls-of file) (start-of file) (rows-of file)
 
--- .. "Any other is turned away": a file that isn't turned away keeps every limit
+-- §12.1 any other is turned away: a file that isn't keeps every limit
 unfoldable pub Others-refused : Type 0
 Others-refused = (file : List ℕ) → number-shown (shown file) ≡ 0 → Keeps file
 
--- so the limits, said plainly, are those of the refusals: a file keeps them exactly where it is not turned away
+-- §12.1 so the limits, said plainly, are those of the refusals: a file keeps them exactly where it is not turned away
 unfoldable pub File-plain : Type 0
 File-plain = (file : List ℕ) → Keeps file ↔ (number-shown (shown file) ≡ 0)
 
--- .. "with the number that 01 gives for its fault": 21 and 23 never arise
+-- §9.6 the numbers that a file can meet, 0 with them; 21 and 23 are none
 unfoldable pub in-a-file : (number : ℕ) → Bool
 in-a-file n = leb n 9 || any-of (22 ∷ 24 ∷ 25 ∷ 26 ∷ 41 ∷ 42 ∷ 43 ∷ 44 ∷ 45 ∷ []) (eqb n)
 
+-- §9.6 a file meets no others
 unfoldable pub Numbers-met : Type 0
 Numbers-met = (file : List ℕ) → in-a-file (number-shown (shown file)) ≡ true
 
--- 31 and `open both` don't arise either: what holds of the seams of a row that is shown
+-- §10.3 what holds of each seam of a row that is shown: it is not turned away with 31, and it is not `open both`
 unfoldable pub Seams-hold : Shown → Type 0
 Seams-hold (lines w l ms ts) =
     (a b : ℕ) → a < w → b < w → are-neighbours w a b ≡ true →
@@ -54,20 +54,22 @@ Seams-hold (lines w l ms ts) =
     (number-of seam ≡ 0) × (side-of seam ≡ some Both → ⊥)
 Seams-hold (turned-away n at) = Unit {0}
 
+-- §10.1 something holds of all that is shown
 pub data Every (P : Shown → Type 0) : List Shown → Type 0 where
   no-more : Every P []
   also : {x : Shown} {xs : List Shown} → P x → Every P xs → Every P (x ∷ xs)
 
+-- §10.3 so it is with all seams of a file
 unfoldable pub Seams-answered : Type 0
 Seams-answered = (file : List ℕ) → Every Seams-hold (shown file)
 
--- "The rows of an accepted wall file come from such a list": every call is accepted, and there are R
+-- §11.8 each call of a file that keeps every limit is accepted, and they are R
 unfoldable pub File-is-run : Type 0
 File-is-run =
     (file : List ℕ) → Keeps file →
     (accepted-calls (settings-of file) (calls-of file) (start-of file) ≡ calls-of file) × (length (rows-of file) ≡ settings-of file .rows)
 
--- so demand 3 holds of files
+-- §12.3 so the reach of one faulty tile holds of files
 unfoldable pub File-one-fault : Type 0
 File-one-fault =
     (a b : List ℕ) (f k : ℕ) → Keeps a → Keeps b → settings-of a ≡ settings-of b → start-of a ≡ start-of b →

@@ -1,5 +1,5 @@
 -- Wall files that are turned away, each with its number and its offset, and with two faults the one that comes first. Each is the wall that
--- 01 prints with other bytes, cut short or longer; its fields stand at 0, 27, 78 and 82, and it ends at 257. Assumes nothing.
+-- Cases.antt prints whole, with other bytes, cut short or longer; its fields stand at 0, 27, 78 and 82, and it ends at 257. Assumes nothing.
 use mathlib.Core.Path.{_≡_}
 use mathlib.Core.List.{List, [], _∷_, _++_, map}
 use Prim.Native.Nat.{ℕ}
@@ -8,24 +8,25 @@ use Rattle.steps.specs.Shown.{turned-away, number-shown}
 use Rattle.file.specs.Cases.{put, printed-file}
 use Rattle.file.specs.File.{shown}
 
+-- §9.6 a file, and its number and offset
 pub record Case : Type 0 where
   pub number : ℕ
   pub offset : ℕ
   pub file : List ℕ
 
+-- §9.6 a case by these
 unfoldable pub case : (number offset : ℕ) → (file : List ℕ) → Case
 case n at file = record { number = n; offset = at; file = file }
 
--- with other bytes from a place on
+-- §9.6 with other bytes from a place on
 unfoldable pub changed : (number offset at : ℕ) → (bytes : List ℕ) → Case
 changed n at k bs = case n at (put k bs printed-file)
 
--- cut after so many bytes
+-- §9.6 cut after so many bytes
 unfoldable pub cut : (number offset bytes : ℕ) → Case
 cut n at k = case n at (take k printed-file)
 
--- 41 a tag that is not due, 42 a length that is not, 43 a file that is too short, 44 one that is too long, 45 a row 0 time past 2^39 - 1:
--- each at the place of the field that is due, 44 where the file should have ended
+-- §9.6 41, 42, 43 and 45, each at the place of the field that is due, and 44 where the file should have ended
 unfoldable pub fields-refused : List Case
 fields-refused =
     changed 41 0 0 (2 ∷ [])
@@ -55,7 +56,7 @@ fields-refused =
     ∷ changed 45 27 70 (0 ∷ 0 ∷ 0 ∷ 128 ∷ 0 ∷ 0 ∷ 0 ∷ 0 ∷ [])
     ∷ []
 
--- the numbers of settings, at 0: W, R, d, u, A, r and h past a limit, h below u + c + 2 and A below 16h
+-- §9.6 the numbers of settings, at 0: W, R, d, u, A, r and h past a limit, h below u + c + 2 and A below 16h
 unfoldable pub settings-refused : List Case
 settings-refused =
     changed 1 0 3 (0 ∷ 5 ∷ [])
@@ -74,8 +75,8 @@ settings-refused =
     ∷ changed 9 0 15 (0 ∷ 0 ∷ 0 ∷ 191 ∷ [])
     ∷ []
 
--- 22 and 24 to 26, at the place of tag 4: a mark in column 6, marks in columns 0 and 1, a drift of 1 in the last tile, and a delay of 101, of 89 and
--- of 2^64 - 1
+-- §9.6 22 and 24 to 26, at the place of tag 4: a mark in column 6, marks in columns 0 and 1, a drift of 1 in the last tile, and a delay of 101,
+-- of 89 and of 2^64 - 1
 unfoldable pub row-refused : List Case
 row-refused =
     changed 22 82 81 (64 ∷ [])
@@ -86,8 +87,7 @@ row-refused =
     ∷ changed 26 82 87 (255 ∷ 255 ∷ 255 ∷ 255 ∷ 255 ∷ 255 ∷ 255 ∷ 255 ∷ [])
     ∷ []
 
--- where two apply: tag and length missing, then the tag, the length, the body, and only then what a field holds, tag 3's once tag 4 is
--- there too
+-- §9.7 where two apply: tag and length missing, then the tag, the length, the body, and only then what a field holds, tag 3's with tag 4's
 unfoldable pub order-kept : List Case
 order-kept =
     -- under three bytes are left, and the tag is another
@@ -118,15 +118,17 @@ order-kept =
     ∷ case 22 82 (put 81 (64 ∷ []) printed-file ++ (1 ∷ []))
     ∷ []
 
+-- §9.8 each shows its refusal and nothing else
 unfoldable pub Refusals-met : Type 0
 Refusals-met =
     let cases = fields-refused ++ settings-refused ++ row-refused ++ order-kept in
     map (λ x. shown (x .file)) cases ≡ map (λ x. turned-away (x .number) (x .offset) ∷ []) cases
 
--- row 0 times of 2^39 - 1 are not turned away
+-- §9.6 the bytes of 2^39 - 1
 unfoldable pub latest-start : List ℕ
 latest-start = 0 ∷ 0 ∷ 0 ∷ 127 ∷ 255 ∷ 255 ∷ 255 ∷ 255 ∷ []
 
+-- §9.6 row 0 with this time in each column is accepted
 unfoldable pub Latest-start-met : Type 0
 Latest-start-met =
     number-shown

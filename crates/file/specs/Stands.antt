@@ -9,13 +9,13 @@ use Rattle.stages.specs.declared.Wall.{Wall}
 use Rattle.stages.specs.declared.Wall.the-variants.{New, Start, Row, End, Over}
 use Rattle.steps.specs.Step.{step-of}
 
--- a place in a file: its settings pass, its row is one of theirs, and its offset is no larger than the fields before it
+-- §17.3 a place in a file: its settings pass, its row is one of theirs, and its offset is no larger than the fields before it
 pub record Stood (p : Place) : Type 0 where
   pub pass : settings-refusal (p .settings) ≡ 0
   pub row : p .row ≤ p .settings .rows
   pub offset : p .offset ≤ 2078 + 6710 * p .row
 
--- a wall that steps leave
+-- §17.3 a wall that steps leave
 unfoldable pub Stands : Wall → Type 0
 Stands New = Unit {0}
 Stands (Start p) = Stood p × (p .offset ≤ 27)
@@ -23,7 +23,7 @@ Stands (Row p) = Stood p × (p .row < p .settings .rows)
 Stands (End p) = Stood p
 Stands Over = Unit {0}
 
--- how many steps are left, at most
+-- §17.3 how many steps are left, at most
 unfoldable pub steps-left : Wall → ℕ
 steps-left New = 1027
 steps-left (Start p) = p .settings .rows + 2
@@ -31,7 +31,7 @@ steps-left (Row p) = p .settings .rows - p .row + 1
 steps-left (End p) = 1
 steps-left Over = 0
 
--- a step with something due leaves such a wall again, and fewer steps
+-- §17.3 a step with something due leaves such a wall again, and fewer steps
 unfoldable pub Steps-fewer : Type 0
 Steps-fewer =
     (x : Wall) (row part : List ℕ) → Stands x → (due-of x ≡ 0 → ⊥) →

@@ -10,54 +10,62 @@ use Rattle.seam.specs.declared.Seam.{Seam}
 use Rattle.seam.specs.declared.Seam.the-variants.{Closed, Open, Refused}
 use Rattle.lines.specs.Number.{decimal, hexadecimal}
 
+-- §10.2 what stands between the words of a line
 abbrev pub space : ℕ
 space = 32
 
+-- §10.2 the line feed that ends a line
 abbrev pub line-end : ℕ
 line-end = 10
 
+-- §10.2 `-`, a faulty tile's time
 abbrev pub dash : List ℕ
 dash = 45 ∷ []
 
--- `at`, `refused`, `open`, `left`, `right`, `both`
+-- §10.4 `at`
 abbrev pub at-word : List ℕ
 at-word = 97 ∷ 116 ∷ []
 
+-- §10.4 `refused`
 abbrev pub refused-word : List ℕ
 refused-word = 114 ∷ 101 ∷ 102 ∷ 117 ∷ 115 ∷ 101 ∷ 100 ∷ []
 
+-- §10.3 `open`
 abbrev pub open-word : List ℕ
 open-word = 111 ∷ 112 ∷ 101 ∷ 110 ∷ []
 
+-- §10.3 `left`, `right` or `both`
 unfoldable pub side-word : Side → List ℕ
 side-word Left = 108 ∷ 101 ∷ 102 ∷ 116 ∷ []
 side-word Right = 114 ∷ 105 ∷ 103 ∷ 104 ∷ 116 ∷ []
 side-word Both = 98 ∷ 111 ∷ 116 ∷ 104 ∷ []
 
--- "`t` row, column, time (`-` if faulty)"
+-- §10.2 the line of a tile
 unfoldable pub t-line : (row column : ℕ) → (faulty : Bool) → (time : ℕ) → List ℕ
 t-line l c f t = (116 ∷ space ∷ decimal l) ++ (space ∷ decimal c) ++ (space ∷ cond f dash (decimal t)) ++ (line-end ∷ [])
 
--- "bits of midpoint and half gap, 16 hexadecimal digits each (`open left`, `open right` or `open both` in place of the bits)"
+-- §10.3 what a closed seam's line ends with: the bits of its midpoint, then of its half gap
 unfoldable pub halves-words : Halves → List ℕ
 halves-words h = hexadecimal 16 (toBits binary64 (h .midpoint)) ++ (space ∷ hexadecimal 16 (toBits binary64 (h .«half_gap»)))
 
+-- §10.3 what an open seam's line ends with
 unfoldable pub open-words : Side → List ℕ
 open-words side = open-word ++ (space ∷ side-word side)
 
--- "`s` row, left, right"
+-- §10.3 what a seam's line begins with: `s`, its row, left and right
 unfoldable pub seam-head : (row left right : ℕ) → List ℕ
 seam-head l a b = (115 ∷ space ∷ decimal l) ++ (space ∷ decimal a) ++ (space ∷ decimal b)
 
+-- §10.3 the line of a seam that ends with these words
 unfoldable pub seam-line : (row left right : ℕ) → (words : List ℕ) → List ℕ
 seam-line l a b words = seam-head l a b ++ (space ∷ words) ++ (line-end ∷ [])
 
--- a seam that is turned away has no line; in a wall file none is
+-- §10.3 the line of a seam; one that is turned away has none, and in a wall file none is
 unfoldable pub s-line : (row left right : ℕ) → Seam → List ℕ
 s-line l a b (Closed h) = seam-line l a b (halves-words h)
 s-line l a b (Open side) = seam-line l a b (open-words side)
 s-line l a b (Refused n) = []
 
--- "A refusal prints `refused` number `at` byte offset"
+-- §10.4 the line of a refusal
 unfoldable pub refused-line : (number offset : ℕ) → List ℕ
 refused-line n at = (refused-word ++ (space ∷ decimal n)) ++ (space ∷ at-word) ++ (space ∷ decimal at) ++ (line-end ∷ [])

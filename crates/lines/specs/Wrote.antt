@@ -4,7 +4,7 @@ use mathlib.Core.List.{List, _++_}
 use Prim.Native.Nat.{ℕ, _+_}
 use lib.ListN.{length, take}
 
--- from place `at` on the buffer holds the text, which ends at `end`; what stood before it is as it was
+-- §13.4 from place `at` on the buffer holds the text, which ends at `end`; what stood before it is as it was
 pub record Wrote (before : List ℕ) (at : ℕ) (text : List ℕ) (after : List ℕ) (end : ℕ) : Type 0 where
   pub as-long : length after ≡ length before
   pub goes : end ≡ at + length text

@@ -13,14 +13,14 @@ use Rattle.admission.specs.Refusal.{row-refusal}
 use Rattle.fields.specs.Field.{field-refusal, or-else}
 use Rattle.contents.specs.Contents.{marks-field, tiles-size, call-in}
 
--- a row can be worked out: its settings pass, its marks are there, and the rows are W long
+-- §7.1 a row can be worked out: its settings pass, its marks are there, and the rows are W long
 pub record Plannable (s : Settings) (part : List ℕ) (before times : ℕ) : Type 0 where
   pub pass : settings-refusal s ≡ 0
   pub marks-there : field-refusal 3 (mark-bytes (s .width)) part ≡ 0
   pub before-long : before ≡ s .width
   pub times-long : times ≡ s .width
 
--- the number of the row's tiles, and the row where it is 0; otherwise what was held
+-- §9.7 the number of tag 4's field or of the row call; and the row where it is 0, otherwise what was held
 pub record Worked-out (s : Settings) (part before held : List ℕ) (number : ℕ) (times : List ℕ) : Type 0 where
   pub answered :
       number

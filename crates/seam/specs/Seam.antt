@@ -12,45 +12,47 @@ use Rattle.seam.specs.declared.Side.the-variants.{Left, Right, Both}
 use Rattle.seam.specs.declared.Seam.{Seam}
 use Rattle.seam.specs.declared.Seam.the-variants.{Closed, Open, Refused}
 
--- the latest time of a seam is the latest stamp, 2^41 - 1
+-- §8.4 the latest time of a correct tile is the latest stamp, 2^41 - 1
 abbrev pub latest : ℕ
 latest = latest-stamp
 
--- half of a whole number, as a 64-bit floating number: the fraction n / 2 with the number's sign, and 0 plus
+-- §8.3 half of a whole number, as a 64-bit floating number: the fraction n / 2 with the number's sign, and 0 plus
 unfoldable pub half : ℤ → Float
 half (pos n) = round binary64 false n 2
 half (negsuc n) = round binary64 true (suc n) 2
 
--- "the midpoint and the half gap travel together: half the sum, and half of right time minus left time"
+-- §8.3 the halves of two times: half of their sum, the midpoint, and half of right less left, the half gap
 unfoldable pub halves : (left right : ℕ) → Halves
 halves l r = record { midpoint = half (pos (l + r)); «half_gap» = half (pos r -ℤ pos l) }
 
--- "31 a correct tile's time over 2^41 - 1; a faulty tile's time is not read"
+-- §8.4 the condition of 31: the tile is correct, and its time is over the latest
 unfoldable pub late : (time : ℕ) (faulty : Bool) → Bool
 late t f = not f && ltb latest t
 
--- "A seam is either closed, with two 64-bit floating numbers, or open, saying whether left, right or both are faulty":
--- "closed .. where neither tile is faulty"
+-- §8.2 closed with its halves where no tile is faulty, otherwise open at the side that is, or at both
 unfoldable pub joined : (left-faulty right-faulty : Bool) → Halves → Seam
 joined false false h = Closed h
 joined true false h = Open Left
 joined false true h = Open Right
 joined true true h = Open Both
 
+-- §8.4 the answer for two tiles, each by its time and whether it is faulty: 31 where one is late, otherwise their seam
 unfoldable pub seam-of : (left : ℕ) (left-faulty : Bool) (right : ℕ) (right-faulty : Bool) → Seam
 seam-of l lf r rf = cond (late l lf || late r rf) (Refused 31) (joined lf rf (halves l r))
 
--- 01's number and values in each case of the answer
+-- §13.3 the number that each case of the answer stands for, 0 for a seam
 unfoldable pub number-of : Seam → ℕ
 number-of (Closed h) = 0
 number-of (Open s) = 0
 number-of (Refused n) = n
 
+-- §13.3 the midpoint and half gap that a closed seam has
 unfoldable pub halves-of : Seam → Option Halves
 halves-of (Closed h) = some h
 halves-of (Open s) = none
 halves-of (Refused n) = none
 
+-- §13.3 the side that an open seam has
 unfoldable pub side-of : Seam → Option Side
 side-of (Closed h) = none
 side-of (Open s) = some s

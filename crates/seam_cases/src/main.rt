@@ -1,7 +1,7 @@
-// Joins the pairs of document 01's printed wall, odd gaps, both ends of the range, and a seam for
-// each way of being open or turned away, as the file `stdin` lists them. Each line says what 01
-// gives, a closed seam's as the bits of the midpoint and of the half gap, and whether the operation
-// answered that.
+// Joins the pairs of the wall that is printed whole, odd gaps, both ends of the range, and a seam
+// for each way of being open or turned away, as the file `stdin` lists them. Each line says what the
+// requirements give, a closed seam's as the bits of the midpoint and of the half gap, and whether
+// the operation answered that.
 use bytes::scan::find;
 use cases::Numbers;
 use libc::STDIN_FILENO;

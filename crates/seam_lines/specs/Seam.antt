@@ -14,18 +14,18 @@ use Rattle.lines.specs.Line.{line-end, halves-words, open-words}
 use Rattle.lines.specs.Row.{each-below}
 use Rattle.tables.specs.Word.{spaced}
 
--- halves whose bits can be taken
+-- §10.3 halves whose bits can be taken
 pub record Numbers (h : Halves) : Type 0 where
   pub midpoint : T (not (isNan (h .midpoint)))
   pub half-gap : T (not (isNan (h .«half_gap»)))
 
--- the line of a seam, after what the lines of a row begin with
+-- §10.3 the line of a seam, after what the lines of a row begin with
 unfoldable pub seam-after : (head : List ℕ) → (left right : ℕ) → Seam → List ℕ
 seam-after head a b (Closed h) = head ++ spaced a ++ spaced b ++ (halves-words h ++ (line-end ∷ []))
 seam-after head a b (Open side) = head ++ spaced a ++ spaced b ++ (open-words side ++ (line-end ∷ []))
 seam-after head a b (Refused n) = []
 
--- the lines of seams of columns as far apart as `gap`: the right columns from one on, that many
+-- §10.3 the lines of seams of columns as far apart as `gap`: the right columns from one on, that many
 unfoldable pub run-after : (head marks times : List ℕ) → (gap from count : ℕ) → List ℕ
 run-after head ms ts gap from n =
     each-below n

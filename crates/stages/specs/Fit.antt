@@ -9,11 +9,11 @@ use Rattle.stages.specs.declared.Wall.{Wall}
 use Rattle.stages.specs.declared.Wall.the-variants.{New, Start, Row, End, Over}
 use Rattle.settings.specs.Settings.{settings-refusal}
 
--- a place, by its settings, the last row accepted and the bytes taken
+-- §17.3 a place, by its settings, the last row accepted and the bytes taken
 unfoldable pub place : Settings → (row offset : ℕ) → Place
 place s l at = record { settings = s; row = l; offset = at }
 
--- how many bytes of the file a step is given, fewer only where the file ends
+-- §17.3 how many bytes of the file a step is given, fewer only where the file ends
 unfoldable pub due-size : Wall → ℕ
 due-size New = 3 + settings-size
 due-size (Start p) = 3 + start-size (p .settings .width)
@@ -21,10 +21,11 @@ due-size (Row p) = row-size (p .settings .width)
 due-size (End p) = 1
 due-size Over = 0
 
--- "each operation given one repeats them": of a wall whose settings don't pass nothing is due
+-- §2.6 whether the settings pass, checked again
 unfoldable pub passes : Place → Bool
 passes p = eqb (settings-refusal (p .settings)) 0
 
+-- §17.3 the bytes of a step, none where the settings don't pass
 unfoldable pub due-of : Wall → ℕ
 due-of New = due-size New
 due-of (Start p) = cond (passes p) (due-size (Start p)) 0
@@ -32,7 +33,7 @@ due-of (Row p) = cond (passes p) (due-size (Row p)) 0
 due-of (End p) = due-size (End p)
 due-of Over = due-size Over
 
--- the wall's width, once its settings are taken
+-- §17.3 how many times the wall's row has: W, or none before the settings are taken and where they don't pass
 unfoldable pub width-of : Wall → ℕ
 width-of New = 0
 width-of (Start p) = cond (passes p) (p .settings .width) 0
@@ -40,11 +41,12 @@ width-of (Row p) = cond (passes p) (p .settings .width) 0
 width-of (End p) = cond (passes p) (p .settings .width) 0
 width-of Over = 0
 
--- a place that steps leave, with a row of W times
+-- §17.3 a place that steps leave, with a row of W times
 unfoldable pub place-fits : Place → (row : ℕ) → Bool
 place-fits p n =
     passes p && (eqb n (p .settings .width) && (leb (p .row) (p .settings .rows) && leb (p .offset) 4294967295))
 
+-- §17.3 whether a row of so many times fits the wall; before the settings and after the end any does
 unfoldable pub wall-fits : Wall → (row : ℕ) → Bool
 wall-fits New n = true
 wall-fits (Start p) n = place-fits p n

@@ -1,4 +1,4 @@
--- What the answer of a step means, and what it is in each case of 01. Assumes nothing.
+-- What the answer of a step means, and what it is in each case. Assumes nothing.
 use mathlib.Core.Bool.{cond}
 use mathlib.Core.List.{List, []}
 use mathlib.Core.Option.{Option, none, some}
@@ -17,22 +17,22 @@ use Rattle.steps.specs.Step.{after-row}
 use Rattle.steps.specs.declared.Answer.{Answer}
 use Rattle.steps.specs.declared.Answer.the-variants as answer
 
--- 01's number in each case of the answer, 0 where the part is accepted; what does not fit has none
+-- §13.3 the number that each case of the answer stands for, 0 where the part is accepted; what does not fit has none
 unfoldable pub number-of : Answer → Option ℕ
 number-of (answer.Taken t) = some (t .number)
 number-of answer.Unfit = none
 
--- the offset that comes with a refusal
+-- §13.3 the offset that comes with a refusal
 unfoldable pub offset-of : Answer → Option ℕ
 offset-of (answer.Taken t) = cond (eqb (t .number) 0) none (some (t .offset))
 offset-of answer.Unfit = none
 
--- the wall afterwards
+-- §13.3 the wall afterwards
 unfoldable pub wall-of : Answer → Option Wall
 wall-of (answer.Taken t) = some (t .wall)
 wall-of answer.Unfit = none
 
--- by what is due: the number of the part, 0 where it is accepted
+-- §9.7 the number of the part that is due, 0 where it is accepted
 unfoldable pub number-due : Wall → (row part : List ℕ) → ℕ
 number-due New ts bs = settings-number bs
 number-due (Start p) ts bs = start-number (p .settings) bs
@@ -40,8 +40,7 @@ number-due (Row p) ts bs = row-number (p .settings) ts bs
 number-due (End p) ts bs = cond (eqb (length bs) 0) 0 44
 number-due Over ts bs = 0
 
--- .. where it is turned away: where the field that is due begins, tag 4 for what a row's fields hold, and the first byte too many for
--- 44
+-- §9.8 where a part is turned away: at the field that is due, at tag 4 for what a row's fields hold, at the first byte too many for 44
 unfoldable pub offset-due : Wall → (part : List ℕ) → ℕ
 offset-due New bs = 0
 offset-due (Start p) bs = p .offset
@@ -49,7 +48,7 @@ offset-due (Row p) bs = row-offset (p .settings) (p .offset) bs
 offset-due (End p) bs = p .offset
 offset-due Over bs = 0
 
--- .. and once it is accepted: what is due next
+-- §17.3 what is due once a part is accepted
 unfoldable pub wall-then : Wall → (part : List ℕ) → Wall
 wall-then New bs = Start (place (settings-in (body settings-size bs)) 0 (3 + settings-size))
 wall-then (Start p) bs = Row (place (p .settings) 0 (p .offset + (3 + start-size (p .settings .width))))
@@ -57,7 +56,7 @@ wall-then (Row p) bs = after-row (p .settings) (suc (p .row)) (p .offset + row-s
 wall-then (End p) bs = Over
 wall-then Over bs = Over
 
--- .. the row that is written, row 0 or the next
+-- §17.3 the row that is then written, row 0 or the next
 unfoldable pub row-then : Wall → (row part held : List ℕ) → List ℕ
 row-then New ts bs held = held
 row-then (Start p) ts bs held = times-in (p .settings .width) (body (start-size (p .settings .width)) bs)
@@ -65,7 +64,7 @@ row-then (Row p) ts bs held = row-of (p .settings) ts (call-in (p .settings .wid
 row-then (End p) ts bs held = held
 row-then Over ts bs held = held
 
--- .. and what is then shown: the last row, since the next is accepted or the file has ended rightly
+-- §10.1 what is then shown: the last row, since the next is accepted or the file has ended as it should
 unfoldable pub shown-then : Wall → (row part : List ℕ) → List Shown
 shown-then New ts bs = []
 shown-then (Start p) ts bs = []

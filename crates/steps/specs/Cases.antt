@@ -1,5 +1,5 @@
--- Parts of a wall file that are turned away, each with its number and its offset, at literal bytes. The wall has six columns and one
--- row, with 01's settings of the printed wall. Assumes nothing.
+-- Parts of a wall file that are turned away, each with its number and its offset, at literal bytes. The wall has six columns and one row, and the
+-- settings of the wall that is printed whole. Assumes nothing.
 use mathlib.Core.Path.{_≡_}
 use mathlib.Core.List.{List, [], _∷_, _++_, map}
 use Prim.Native.Nat.{ℕ}
@@ -10,6 +10,7 @@ use Rattle.stages.specs.declared.Wall.the-variants.{New, Start, Row, End}
 use Rattle.steps.specs.Shown.{turned-away}
 use Rattle.steps.specs.Step.{step-of}
 
+-- §14.4 a place in the file of this wall
 unfoldable pub placed : (row offset : ℕ) → Place
 placed l at =
     record {
@@ -18,24 +19,26 @@ placed l at =
       offset = at;
     }
 
--- what is due, the bytes of its part, and the refusal
+-- §9.7 what is due, the bytes of its part, and the refusal
 pub record Case : Type 0 where
   pub due : Wall
   pub part : List ℕ
   pub number : ℕ
   pub offset : ℕ
 
+-- §9.7 a case by these
 unfoldable pub case : (number offset : ℕ) → (due : Wall) → (part : List ℕ) → Case
 case n at x bs = record { due = x; part = bs; number = n; offset = at }
 
--- the row's two fields stand at 78 and 82
+-- §9.7 a case of a row, whose two fields stand at 78 and 82
 unfoldable pub row-case : (number offset : ℕ) → (part : List ℕ) → Case
 row-case n at bs = case n at (Row (placed 0 78)) bs
 
--- a field: its tag, its length and its body
+-- §9.1 a field: its tag, its length and its body
 unfoldable pub field : (tag size : ℕ) → (body : List ℕ) → List ℕ
 field tag size body = tag ∷ 0 ∷ size ∷ body
 
+-- §9.7 and §9.8: the numbers of each part in their order, each with its offset
 unfoldable pub step-cases : List Case
 step-cases =
     -- the settings, at 0: the field's numbers, then theirs
@@ -68,7 +71,7 @@ step-cases =
     ∷ case 44 257 (End (placed 1 257)) (1 ∷ [])
     ∷ []
 
--- each shows its refusal and nothing else; the row that is lent holds 1000 in each column
+-- §9.8 each shows its refusal and nothing else; the row that is lent holds 1000 in each column
 unfoldable pub Step-cases-met : Type 0
 Step-cases-met =
     map (λ x. step-of (x .due) (replicate 6 1000) (x .part) .shows) step-cases ≡ map (λ x. turned-away (x .number) (x .offset) ∷ []) step-cases

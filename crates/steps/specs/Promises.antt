@@ -11,8 +11,8 @@ use Rattle.steps.specs.Answer.{number-of, offset-of, wall-of, number-due
 use Rattle.steps.specs.Take.{both-fit, Takes}
 use Rattle.steps.specs.declared.Answer.{Answer}
 
--- the answer's number and values, and the lent row afterwards: where the rows don't fit, where the part is accepted, and where it is
--- turned away
+-- §13.4 and §13.2: the answer's number and values, and the lent row afterwards, where the rows don't fit, where the part is accepted, and where
+-- it is turned away
 unfoldable pub Take-answered : Type 0
 Take-answered =
     (x : Wall) (part row held next : List ℕ) (answer : Answer) → Takes x part row held answer next →

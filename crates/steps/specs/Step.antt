@@ -15,24 +15,28 @@ use Rattle.stages.specs.declared.Wall.{Wall}
 use Rattle.stages.specs.declared.Wall.the-variants.{New, Start, Row, End, Over}
 use Rattle.stages.specs.Fit.{place, due-size}
 
--- what a step leaves: the wall as it then stands, the row, and what is shown
+-- §17.3 what a step leaves: the wall as it then stands, the row, and what is shown
 pub record Stepped : Type 0 where
   pub next : Wall
   pub row : List ℕ
   pub shows : List Shown
 
+-- §17.3 the same, by its three parts
 unfoldable pub stepped : Wall → (row : List ℕ) → List Shown → Stepped
 stepped x ts shows = record { next = x; row = ts; shows = shows }
 
+-- §9.8 a refusal, which ends the file and leaves the row
 unfoldable pub away : (row : List ℕ) → (number offset : ℕ) → Stepped
 away ts n at = stepped Over ts (turned-away n at ∷ [])
 
+-- §9.2 the step that takes tag 1
 unfoldable pub settings-step : (row part : List ℕ) → Stepped
 settings-step ts bs =
     cond (eqb (settings-number bs) 0)
     (stepped (Start (place (settings-in (body settings-size bs)) 0 (3 + settings-size))) ts [])
     (away ts (settings-number bs) 0)
 
+-- §9.3 the step that takes tag 2: the row is then row 0
 unfoldable pub start-step : Settings → (at : ℕ) → (row part : List ℕ) → Stepped
 start-step s at ts bs =
     let size = start-size (s .width) in
@@ -40,10 +44,11 @@ start-step s at ts bs =
     (stepped (Row (place s 0 (at + (3 + size)))) (times-in (s .width) (body size bs)) [])
     (away ts (start-number s bs) at)
 
--- after the last row the end of the file is due
+-- §17.3 what is due after row l: the next row, or after the last the end of the file
 unfoldable pub after-row : Settings → (l at : ℕ) → Wall
 after-row s l at = cond (ltb l (s .rows)) (Row (place s l at)) (End (place s l at))
 
+-- §9.4 the step that takes tags 3 and 4: the next row is worked out, and the last one shown
 unfoldable pub row-step : Settings → (l at : ℕ) → (row part : List ℕ) → Stepped
 row-step s l at ts bs =
     let w = s .width in
@@ -51,10 +56,12 @@ row-step s l at ts bs =
     (stepped (after-row s (suc l) (at + row-size w)) (row-of s ts (call-in w bs)) (row-shown s l (marks-in w bs) ts))
     (away ts (row-number s ts bs) (row-offset s at bs))
 
+-- §9.6 the step at the file's end: row R is shown, or 44
 unfoldable pub end-step : Settings → (l at : ℕ) → (row part : List ℕ) → Stepped
 end-step s l at ts bs =
     cond (eqb (length bs) 0) (stepped Over ts (row-shown s l (no-marks (s .width)) ts)) (away ts 44 at)
 
+-- §17.3 the step that is due
 unfoldable pub step-of : Wall → (row part : List ℕ) → Stepped
 step-of New ts bs = settings-step ts bs
 step-of (Start p) ts bs = start-step (p .settings) (p .offset) ts bs
@@ -62,7 +69,7 @@ step-of (Row p) ts bs = row-step (p .settings) (p .row) (p .offset) ts bs
 step-of (End p) ts bs = end-step (p .settings) (p .row) (p .offset) ts bs
 step-of Over ts bs = stepped Over ts []
 
--- n steps over what is left of the file: each is given the due part, and the next begins after it
+-- §17.3 n steps over what is left of the file: each is given the due part, and the next begins after it
 unfoldable pub steps-shown : (n : ℕ) → Wall → (row rest : List ℕ) → List Shown
 steps-shown zero x ts bs = []
 steps-shown (suc n) x ts bs =

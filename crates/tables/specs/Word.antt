@@ -6,47 +6,49 @@ use lib.ListN.{length, getD}
 use Rattle.lines.specs.Number.{glyph, decimal}
 use Rattle.lines.specs.Line.{space}
 
--- the first bytes of a word, and the word of a text
+-- §10.2 the first bytes of a word
 unfoldable pub bytes : (count word : ℕ) → List ℕ
 bytes zero w = []
 bytes (suc k) w = (w % 256) ∷ bytes k (w / 256)
 
+-- §10.2 the word of a text
 unfoldable pub word-of : List ℕ → ℕ
 word-of [] = 0
 word-of (b ∷ bs) = b + 256 * word-of bs
 
--- the last decimal digits, that many
+-- §10.2 the last decimal digits, that many, zeros too
 unfoldable pub padded : (places n : ℕ) → List ℕ
 padded zero n = []
 padded (suc k) n = padded k (n / 10) ++ (glyph (n % 10) ∷ [])
 
--- a number and a space
+-- §10.2 a number and a space
 unfoldable pub spaced : (n : ℕ) → List ℕ
 spaced n = decimal n ++ (space ∷ [])
 
--- the two digits of a number in a base
+-- §10.2 the two digits of a number in a base, as a word
 unfoldable pub pair : (base n : ℕ) → ℕ
 pair b n = glyph (n / b) + 256 * glyph (n % b)
 
--- the three hexadecimal digits of a number below 4096
+-- §10.3 the three hexadecimal digits of a number below 4096, as a word
 unfoldable pub triple : (n : ℕ) → ℕ
 triple n = pair 16 (n / 16) + 65536 * glyph (n % 16)
 
--- what a table holds from a place on
+-- §10.2 what a table holds from a place on
 unfoldable pub Holds : (table : List ℕ) → (at count : ℕ) → (ℕ → ℕ) → Type 0
 Holds t at n f = (k : ℕ) → k < n → getD t (at + k) 0 ≡ f k
 
--- what a table held before a place is as it was
+-- §13.2 what a table held before a place is as it was
 unfoldable pub Kept : (before after : List ℕ) → (at : ℕ) → Type 0
 Kept a b at = (k : ℕ) → k < at → getD b k 0 ≡ getD a k 0
 
+-- §13.4 a part of a table has been filled, and what stands before it is as it was
 pub record Table-part (before after : List ℕ) (at count : ℕ) (f : ℕ → ℕ) : Type 0 where
   pub as-long : length after ≡ length before
   pub kept : Kept before after at
   pub holds : Holds after at count f
 
--- words of hexadecimal digits, three as the first and as the next, and two as the last; of pairs of decimal digits at each of
--- the four places of a word; of each column with a space after it, and how long that is
+-- §10.3 words of hexadecimal digits, three as the first and as the next, and two as the last; of pairs of decimal digits at each of the four
+-- places of a word; of each column with a space after it, and how long that is
 pub record Tables (t : List ℕ) : Type 0 where
   pub size : length t ≡ 9616
   pub last-pairs : Holds t 256 256 (λ k. pair 16 k * 281474976710656)

@@ -7,7 +7,7 @@ use Rattle.lines.specs.Number.{decimal}
 use Rattle.tile_lines.specs.declared.near.Near.{Near}
 use Rattle.tables.specs.Word.{bytes, padded}
 
--- a time's digits: the first of them in a word, and then the last of eight
+-- §10.2 a time's digits: the first of them in a word, and then the last of eight
 pub record Serves (near : Near) (time : ℕ) : Type 0 where
   pub past : near .base ≤ time
   pub few : time - near .base < 100000000
@@ -17,5 +17,6 @@ pub record Serves (near : Near) (time : ℕ) : Type 0 where
   pub shifts : near .shift < 64
   pub text : decimal time ≡ bytes (near .length) (near .word) ++ drop (8 - near .digits) (padded 8 (time - near .base))
 
+-- §10.2 each time of the span is served
 unfoldable pub Right : Near → Type 0
 Right near = (t : ℕ) → near .low ≤ t → t - near .low < near .span → Serves near t

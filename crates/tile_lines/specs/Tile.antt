@@ -8,13 +8,14 @@ use Rattle.lines.specs.Number.{decimal}
 use Rattle.lines.specs.Line.{line-end, dash}
 use Rattle.tables.specs.Word.{spaced, Holds}
 
--- codes of a row's tiles: a correct tile's time, and 2^64 - 1 for a faulty one
+-- §10.2 the code of a tile: a correct one's time, and 2^64 - 1 for a faulty one
 unfoldable pub code : (faulty : Bool) → (time : ℕ) → ℕ
 code f t = cond f 18446744073709551615 t
 
+-- §10.2 the codes of so many tiles of a row, by its marks and times
 unfoldable pub Coded : (codes marks times : List ℕ) → (count : ℕ) → Type 0
 Coded cs ms ts n = Holds cs 0 n (λ k. code (marked ms k) (getD ts k 0))
 
--- the line of a tile, after what the lines of a row begin with
+-- §10.2 the line of a tile, after what the lines of a row begin with
 unfoldable pub tile-after : (head : List ℕ) → (column : ℕ) → (faulty : Bool) → (time : ℕ) → List ℕ
 tile-after head c f t = head ++ spaced c ++ cond f dash (decimal t) ++ (line-end ∷ [])

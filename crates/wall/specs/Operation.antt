@@ -16,25 +16,25 @@ use Rattle.wall.specs.declared.Answer.the-variants as step
 use Rattle.stages.specs.Fit.{wall-fits}
 use Rattle.lines.specs.Row.{step-room}
 
--- the row is the wall's, and the buffer has room for the text of any step
+-- §17.3 whether the row fits the wall, and the buffer has room for the text of any step
 unfoldable pub fits : Wall → (row room at : ℕ) → Bool
 fits x n room at = leb (at + step-room) room && wall-fits x n
 
--- the answer: the wall of the step, and where its text ends
+-- §13.3 the wall of a step, and where its text ends
 unfoldable pub went-to : Stepped → (at : ℕ) → Went
 went-to o at = record { wall = o .next; end = at + length (texts-of (o .shows)) }
 
--- what an answer means: the wall afterwards, and where the text ends; what does not fit has neither. The number of a refusal, and its
--- offset, are in the text
+-- §13.3 the wall afterwards; what does not fit has none. The number of a refusal, and its offset, are in the text.
 unfoldable pub wall-of : Answer → Option Wall
 wall-of (step.Went w) = some (w .wall)
 wall-of step.Unfit = none
 
+-- §13.3 where the text ends
 unfoldable pub end-of : Answer → Option ℕ
 end-of (step.Went w) = some (w .end)
 end-of step.Unfit = none
 
--- what the operation answers and leaves: a step of the definition where all fits, otherwise nothing has changed
+-- §13.4 what the operation answers and leaves: a step of the definition where all fits, otherwise nothing has changed
 pub record Stepping (x : Wall) (part row held : List ℕ) (at : ℕ) (answer : Answer) (row-after out : List ℕ) : Type 0 where
   pub answered : answer ≡ cond (fits x (length row) (length held) at) (step.Went (went-to (step-of x row part) at)) step.Unfit
   pub row-left : row-after ≡ cond (fits x (length row) (length held) at) (step-of x row part .row) row

@@ -15,15 +15,14 @@ use Rattle.stages.specs.declared.Wall.the-variants.{Over}
 use Rattle.wall.specs.Operation.{fits, wall-of, end-of, Stepping}
 use Rattle.wall.specs.declared.Answer.{Answer}
 
--- the wall and the end of the text that are answered, the row and the buffer afterwards: an answer to a step that leaves a wall and
--- shows a text
+-- §13.4 an answer to a step that leaves a wall and shows a text: this wall, where the text ends, and the buffer afterwards
 pub record Answered (held : List ℕ) (at : ℕ) (answer : Answer) (out : List ℕ) (next : Wall) (text : List ℕ) : Type 0 where
   pub wall : wall-of answer ≡ some next
   pub end : end-of answer ≡ some (at + length text)
   pub written : Wrote held at text out (at + length text)
 
--- where the step doesn't fit nothing has changed; where the part is accepted the text is that of the last row; where it is turned away
--- the text is the refusal's line, and the row holds what it held
+-- §13.4 and §13.2: where the step doesn't fit nothing has changed; where the part is accepted the text is that of the last row; where it is
+-- turned away the text is the refusal's line, and the row is as it was
 unfoldable pub Step-answered : Type 0
 Step-answered =
     (x : Wall) (part row held : List ℕ) (at : ℕ) (answer : Answer) (row-after out : List ℕ) → Stepping x part row held at answer row-after out →

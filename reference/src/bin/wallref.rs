@@ -1,4 +1,4 @@
-//! `wallref`: reads a wall file from standard input and prints what document 01's `wallrun` prints.
+//! `wallref`: reads a wall file from standard input and prints what `wallrun` prints.
 
 use std::io::{self, BufWriter, Read, Write};
 use std::process::ExitCode;

@@ -4,7 +4,7 @@ use crate::generate::describe::{Description, RowDescription};
 use crate::settings::Numbers;
 use crate::shape::{is_marked, Shape};
 
-/// The settings of document 01's printed wall.
+/// The settings of the wall that is printed whole (§14.4).
 pub const PRINTED: Numbers = Numbers {
     columns: 6,
     rows: 1,
@@ -15,7 +15,7 @@ pub const PRINTED: Numbers = Numbers {
     unit: 12,
 };
 
-/// Document 01's printed wall, with so many rows.
+/// The wall that is printed whole, with so many rows.
 pub fn printed(rows: u32) -> Description {
     let mut wall = quiet(Numbers { rows, ..PRINTED });
     wall.start[3] = 1_080;

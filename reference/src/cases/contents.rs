@@ -135,7 +135,7 @@ fn drifts() -> Vec<Case> {
     ]
 }
 
-/// 26: a delay outside d - u to d, silence from a correct tile, a faulty arrival over 2^40 - 1.
+/// 26: a delay that is not from d - u to d, silence from a correct tile, an arrival from a faulty one past 2^40 - 1.
 fn links() -> Vec<Case> {
     let set = |name: &str, tile: usize, place: usize, value: u64| {
         first_row(name, |row| row.links[tile][place] = value)

@@ -1,4 +1,4 @@
-//! Files that end inside or before a field, wrong tags and lengths, and bytes after the last.
+//! Files cut short before a field or within one, wrong tags and lengths, and bytes after the last field.
 
 use super::build::printed;
 use super::Case;

@@ -25,7 +25,7 @@ pub fn sound(rng: &mut Rng) -> Numbers {
     numbers
 }
 
-/// The settings of the wall that document 01 prints whole, of another size.
+/// The settings of the wall that is printed whole (§14.4), of another size.
 fn printed(columns: u32, rows: u32) -> Numbers {
     Numbers {
         columns,

@@ -76,7 +76,7 @@ pub fn row(rng: &mut Rng, wall: &mut Description, index: usize) {
     }
 }
 
-/// 22: a mark bit past the last column.
+/// 22: a mark past column W - 1.
 fn stray_mark(rng: &mut Rng, numbers: &Numbers, row: &mut RowDescription) {
     let past = row.marks.len() * 8 - 1;
     row.mark(rng.range(numbers.columns.into(), past as u64) as usize);
@@ -117,7 +117,7 @@ fn unmark(row: &mut RowDescription) {
     row.marks.fill(0);
 }
 
-/// 26: a delay outside d - u to d, or a faulty arrival over 2^40 - 1.
+/// 26: a delay that is not from d - u to d, or an arrival from a faulty tile past 2^40 - 1.
 fn link(rng: &mut Rng, numbers: &Numbers, row: &mut RowDescription) {
     let w = row.drifts.len();
     let shape = Shape::new(w);
