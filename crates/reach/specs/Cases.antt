@@ -12,10 +12,11 @@ use Rattle.reach.specs.Search.{gap-of, reach-of, reach-in-row}
 use Rattle.reach.specs.Survey.{surveyed-of, largest-of}
 use Rattle.reach.specs.Answers.{Gap-is, Reached-is, Surveyed-is}
 
+-- §15.2 the settings of these cases
 unfoldable pub wall : Settings
 wall = settings 10 5 100 10 400 0 12
 
--- row 0 of the wall that 01 prints, and rows in which the widest are columns 0 and 2, columns W - 3 and W - 1, and no others so far apart
+-- §15.1 row 0 of the wall of §14.4, and rows in which the widest are columns 0 and 2, columns W - 3 and W - 1, and no others so far apart
 unfoldable pub Widest-cases : Type 0
 Widest-cases =
     (widest-gap 6 (1000 ∷ 1000 ∷ 1000 ∷ 1080 ∷ 1000 ∷ 1000 ∷ []) ≡ 80)
@@ -23,14 +24,15 @@ Widest-cases =
     × (widest-gap 6 (1100 ∷ 1100 ∷ 1100 ∷ 1100 ∷ 1050 ∷ 1000 ∷ []) ≡ 100)
     × (widest-gap 6 (1000 ∷ 1000 ∷ 1050 ∷ 1100 ∷ 1100 ∷ 1100 ∷ []) ≡ 50)
 
--- two rows of ten tiles, with B 80 and B 100
+-- §15.1 ten tiles, with B 80
 unfoldable pub row-80 : List ℕ
 row-80 = 1000 ∷ 1000 ∷ 1000 ∷ 1080 ∷ 1000 ∷ 1000 ∷ 1000 ∷ 1000 ∷ 1000 ∷ 1000 ∷ []
 
+-- §15.1 ten tiles, with B 100
 unfoldable pub row-100 : List ℕ
 row-100 = 1500 ∷ 1500 ∷ 1500 ∷ 1500 ∷ 1500 ∷ 1500 ∷ 1500 ∷ 1500 ∷ 1500 ∷ 1600 ∷ []
 
--- a row of ten; 21 a row of nine or eleven; 1, 8 and 9 before it
+-- §15.1 a row of ten; 21 a row of nine or eleven; 1, 8 and 9 before it
 unfoldable pub Gap-cases : Type 0
 Gap-cases =
     Gap-is (gap-of wall row-80) 0 (some 80)
@@ -41,11 +43,12 @@ Gap-cases =
     × Gap-is (gap-of (settings 10 5 100 10 400 0 11) []) 8 none
     × Gap-is (gap-of (settings 10 5 100 10 191 0 12) []) 9 none
 
--- 2 × 80 + 8 × 12 ticks a row later, and one more for each row after; the columns within so many hops of a middle column, of the first
--- three and of the last
+-- §15.2 so many rows later, of a tile of the column, where B is 80: the ticks, and the first and last column
 unfoldable pub Reaches : (rows column ticks first last : ℕ) → Type 0
 Reaches n k t i j = Reached-is (reach-of wall 80 n k) 0 false (some t) (some i) (some j)
 
+-- §15.2 2 × 80 + 8 × 12 ticks a row later, and one more for each row after; the columns within so many hops of a middle column, of the first
+-- three and of the last
 unfoldable pub Reach-cases : Type 0
 Reach-cases =
     Reaches 1 5 256 4 6
@@ -59,10 +62,12 @@ Reach-cases =
     × Reaches 1 9 256 7 9
     × Reaches 2 9 257 6 9
 
--- of rows f and L the same; outside: a row up to f, a row past R, a column past W, a gap over 2^41 - 1; and the settings' number before
+-- §15.2 of rows f and L: outside
 unfoldable pub Outside : (gap f later column : ℕ) → Type 0
 Outside b f l k = Reached-is (reach-in-row wall b f l k) 0 true none none none
 
+-- §15.2 of rows f and L as many rows later; outside: a row up to f, a row past R, a column past W, a gap over 2^41 - 1; and the settings' number
+-- before it
 unfoldable pub Outside-cases : Type 0
 Outside-cases =
     Reached-is (reach-in-row wall 80 2 5 5) 0 false (some 258) (some 2) (some 9)
@@ -78,7 +83,7 @@ Outside-cases =
     × Reached-is (reach-of (settings 5 5 100 10 400 0 12) 80 0 10) 1 false none none none
     × Reached-is (reach-in-row (settings 5 5 100 10 400 0 12) 80 2 2 10) 1 false none none none
 
--- B of row l and the larger of its reach in row R and the largest before it; outside from row R on; 21 and 1 as for B
+-- §15.3 B of row l and the larger of its reach in row R and the largest before it; outside from row R on; 21 and 1 as for B
 unfoldable pub Survey-cases : Type 0
 Survey-cases =
     Surveyed-is (surveyed-of wall 0 0 row-80) 0 false (some 80) (some 260)
@@ -88,7 +93,7 @@ Survey-cases =
     × Surveyed-is (surveyed-of wall 0 0 (1000 ∷ row-80)) 21 false none none
     × Surveyed-is (surveyed-of (settings 5 5 100 10 400 0 12) 5 0 []) 1 false none none
 
--- the largest over two rows, whichever has it
+-- §15.3 the largest over two rows, whichever has it
 unfoldable pub Largest-cases : Type 0
 Largest-cases =
     (largest-of wall 0 0 (row-80 ∷ row-100 ∷ []) ≡ 299)

@@ -1,4 +1,4 @@
--- What a search has to cover, in the words of the answers: of any row of a wall, and of two runs as in demand 3. Each statement is
+-- What a search has to cover, in the words of the answers: of any row of a wall, and of two runs side by side. Each statement is
 -- proved in proofs/Promises.antt, under its name in small letters. Assumes nothing.
 use mathlib.Core.Path.{_≡_}
 use mathlib.Core.Logic.{_↔_}
@@ -20,13 +20,13 @@ use Rattle.reach.specs.Survey.{largest-of}
 use Rattle.reach.specs.Answers.{gap-B, reached-ticks, reached-first, reached-last, Gap-is, Reached-is}
 use Rattle.reach.specs.declared.Reached.{Reached}
 
--- what B is: no two neighbours differ by more, and it is no more than has to be
+-- §15.1 what B is: no two neighbours differ by more, and it is no more than has to be
 unfoldable pub B-largest : Type 0
 B-largest =
     (w : ℕ) (row : List ℕ) (most : ℕ) →
     ((c j : ℕ) → c < w → j < w → are-neighbours w c j ≡ true → apart (getD row c 0) (getD row j 0) ≤ most) ↔ (widest-gap w row ≤ most)
 
--- a row of a wall has W times of at most 2^41 - 1 (`Row-small`, crate runs): its B is never turned away, and its reach from any column
+-- §15.2 a row of a wall has W times of at most 2^41 - 1 (`Row-small`, crate runs): its B is never turned away, and its reach from any column
 -- in any later row is neither turned away nor outside
 unfoldable pub Row-reached : Type 0
 Row-reached =
@@ -36,7 +36,7 @@ Row-reached =
     Gap-is (gap-of s row) 0 (some b)
     × Reached-is (reach-in-row s b f l k) 0 false (some (reach-ticks s b (l - f))) (some (first-within (s .width) k (l - f))) (some (last-within (s .width) k (l - f)))
 
--- what an answer says of two rows: they are the same before its first column and after its last, and differ by at most its ticks.
+-- §15.2 what an answer says of two rows: they are the same before its first column and after its last, and differ by at most its ticks.
 -- It has these values, so it is neither outside nor turned away.
 pub record Covers (answer : Reached) (w : ℕ) (here there : List ℕ) : Type 0 where
   pub ticks : ℕ
@@ -49,7 +49,7 @@ pub record Covers (answer : Reached) (w : ℕ) (here there : List ℕ) : Type 0 
   pub after : (c : ℕ) → c < w → last < c → getD here c 0 ≡ getD there c 0
   pub near : (c : ℕ) → c < w → apart (getD here c 0) (getD there c 0) ≤ ticks
 
--- demand 3 in the words of the answers: B of row f of the first run is answered, and what is then answered for the tile's column in a
+-- §12.3 B of row f of the first run is answered, and what is then answered for the tile's column in a
 -- later row, by its number or so many rows later, covers that row of both runs
 pub record Searched (s : Settings) (row : List ℕ) (f l k : ℕ) (here there : List ℕ) : Type 0 where
   pub B : ℕ
@@ -57,13 +57,14 @@ pub record Searched (s : Settings) (row : List ℕ) (f l k : ℕ) (here there : 
   pub in-row : Covers (reach-in-row s B f l k) (s .width) here there
   pub by-rows : Covers (reach-of s B (l - f) k) (s .width) here there
 
+-- §12.3 so it is of any two runs that are alike but for one faulty tile: the reach in the words of the answers
 unfoldable pub Search-range : Type 0
 Search-range =
     (s : Settings) (ts : List ℕ) (xs ys : List Call) (f k l : ℕ) → Two-runs Alike (s .width) f k (accepted-calls s xs ts) (accepted-calls s ys ts) →
     length (rows s xs ts) ≡ s .rows → f < l → l ≤ s .rows →
     Searched s (row-at ts (rows s xs ts) f) f l k (row-at ts (rows s xs ts) l) (row-at ts (rows s ys ts) l)
 
--- the number that a search range is set to: no pulse of any row differs by more than the largest reach over rows 0 to R - 1 of the run
+-- §15.3 the number that a search range is set to: no pulse of any row differs by more than the largest reach over rows 0 to R - 1 of the run
 -- without faults
 unfoldable pub Largest-enough : Type 0
 Largest-enough =

@@ -11,15 +11,16 @@ use Rattle.reach.specs.Search.{gap-of, reach-in-row}
 use Rattle.reach.specs.Answers.{Gap-is, Reached-is}
 use Rattle.reach.specs.Promises.{Searched, Search-range, Largest-enough}
 
--- B of row 1 is 0, and in row 2 the answer is 96 ticks and columns 2 to 5, which are just those that differ
+-- §15.2 B of row 1 is 0, and in row 2 the answer is 96 ticks and columns 2 to 5, which are just those that differ
 unfoldable pub Answer-met : Type 0
 Answer-met =
     Gap-is (gap-of wall (row-at row-0 first-rows 1)) 0 (some 0)
     × Reached-is (reach-in-row wall 0 1 2 3) 0 false (some 96) (some 2) (some 5)
 
+-- §12.3 `Search-range` is of such runs
 unfoldable pub Search-range-met : Type 0
 Search-range-met = Search-range → Searched wall (row-at row-0 first-rows 1) 1 2 3 (row-at row-0 first-rows 2) (row-at row-0 second-rows 2)
 
--- the largest reach is that of row 0, two rows before the last
+-- §15.3 the largest reach is that of row 0, two rows before the last
 unfoldable pub Largest-enough-met : Type 0
 Largest-enough-met = Largest-enough → (l c : ℕ) → l ≤ 2 → c < 6 → apart (getD (row-at row-0 first-rows l) c 0) (getD (row-at row-0 second-rows l) c 0) ≤ 97

@@ -12,7 +12,7 @@ use Rattle.stream.specs.declared.State.{State}
 use Rattle.stream.specs.declared.Outcome.{Outcome}
 use Rattle.stream.specs.declared.Ended.the-variants.{Done}
 
--- what `ready` and an `advance` ensure is one turn more of the chain
+-- §16.4 what `ready` and an `advance` ensure is one turn more of the chain
 unfoldable pub Turn-right : {K : Type 0} → Kind K → (first : K) → Type 0
 Turn-right {K} step first =
     (s m r : State) (k l : K) (input times output after times-after output-after : List ℕ) → (due-of (s .wall) ≡ 0 → ⊥) →
@@ -20,7 +20,7 @@ Turn-right {K} step first =
     Advanced step m k after times output r l times-after output-after →
     Standing step first r l after times-after output-after
 
--- A run that is done has handed over what the definition of the whole gives for the bytes that were delivered, in whatever pieces. One
+-- §16.4 a run that is done has handed over what the definition of the whole gives for the bytes that were delivered, in whatever pieces. One
 -- whose read or write failed has handed over a beginning of that, whatever bytes would have followed.
 unfoldable pub Run-right : {K : Type 0} → Kind K → (first : K) → (whole : (file : List ℕ) → List ℕ) → Type 0
 Run-right {K} step first whole =
@@ -30,7 +30,7 @@ Run-right {K} step first whole =
     (r .ended ≡ Done → handed ≡ whole delivered)
     × ((rest : List ℕ) → (r .state .window .ended ≡ true → rest ≡ []) → take (length handed) (whole (delivered ++ rest)) ≡ handed)
 
--- a run that is done, with a file delivered to it
+-- §16.4 a run that is done, with a file delivered to it
 pub record Done-with {K : Type 0} (step : Kind K) (first : K) (file : List ℕ) : Type 0 where
   pub outcome : Outcome
   pub keeps : K
@@ -40,6 +40,6 @@ pub record Done-with {K : Type 0} (step : Kind K) (first : K) (file : List ℕ) 
   pub done : outcome .ended ≡ Done
   pub delivered : ends .ran .delivered ≡ file
 
--- every file has one: what is claimed of runs is claimed of something
+-- §16.4 every file has one: what is claimed of runs is claimed of something
 unfoldable pub Any-file : {K : Type 0} → Kind K → (first : K) → Type 0
 Any-file step first = (file : List ℕ) → Done-with step first file

@@ -8,22 +8,22 @@ use Rattle.stages.specs.Fit.{due-of, width-of}
 use Rattle.stages.specs.declared.Wall.{Wall}
 use Rattle.stages.specs.declared.Wall.the-variants.{New, Over}
 
--- what a step brings: the wall as it then stands, what the run keeps for its next step, the wall's row, and text
+-- §16.4 what a step brings: the wall as it then stands, what the run keeps for its next step, the wall's row, and text
 pub record Brought (K : Type 0) : Type 0 where
   pub wall : Wall
   pub keeps : K
   pub row : List ℕ
   pub text : List ℕ
 
--- the step of a kind of run: on a wall, with what the run keeps, the wall's row and the part that is due
+-- §16.4 the step of a kind of run: on a wall, with what the run keeps, the wall's row and the part that is due
 abbrev pub Kind : Type 0 → Type 0
 Kind K = Wall → K → (row part : List ℕ) → Brought K
 
--- the step on a row's place in a longer buffer, of what is read and not yet taken
+-- §16.4 the step on a row's place in a longer buffer, of what is read and not yet taken
 abbrev pub brings : {K : Type 0} → Kind K → Wall → K → (times held : List ℕ) → Brought K
 brings step x k ts bs = step x k (take (width-of x) ts) (take (due-of x) bs)
 
--- What a run comes to: a wall, what it keeps, and the wall's row; `held` is read and not yet taken, `delivered` is all that was read, in
+-- §16.4 what a run comes to: a wall, what it keeps, and the wall's row; `held` is read and not yet taken, `delivered` is all that was read, in
 -- whatever pieces, and `text` is that of the steps so far.
 pub data Turns {K : Type 0} (step : Kind K) (first : K) : (ended : Bool) → Wall → K → (times held delivered text : List ℕ) → Type 0 where
   begins : {times : List ℕ} → Turns step first false New first times [] [] []
@@ -40,7 +40,7 @@ pub data Turns {K : Type 0} (step : Kind K) (first : K) : (ended : Bool) → Wal
       Turns step first ended (brings step x k times held .wall) (brings step x k times held .keeps) after (drop (due-of x) held) delivered
       (text ++ brings step x k times held .text)
 
--- a run that stands so, with text not yet handed over: what was delivered to it, and what it has handed over
+-- §16.4 a run that stands so, with text not yet handed over: what was delivered to it, and what it has handed over
 pub record Ran {K : Type 0} (step : Kind K) (first : K) (ended : Bool) (x : Wall) (k : K) (times held pending : List ℕ) : Type 0 where
   pub delivered : List ℕ
   pub handed : List ℕ

@@ -1,4 +1,4 @@
--- The answers for a row of a wall, and for two runs as in demand 3. Assumes nothing.
+-- The answers for a row of a wall, and for two runs side by side. Assumes nothing.
 use mathlib.Core.Path.{_≡_}
 use mathlib.Core.Bool.{false}
 use mathlib.Core.List.{List}
