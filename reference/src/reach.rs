@@ -74,7 +74,7 @@ pub fn wallreach(file: &[u8], asked: &[usize], out: &mut impl Write) -> io::Resu
     let mut largest = 0;
     match walk(file, |row| show(&row, asked, &mut largest, out)) {
         Ok(()) => {
-            writeln!(out, "largest {largest}")?;
+            writeln!(out, "largest {largest} ticks")?;
             Ok(Outcome::Whole)
         }
         Err(Stop::Refused(refused)) => {
@@ -186,10 +186,10 @@ mod tests {
     /// The printed wall: B is 80 in row 0, and 36 in row 1, where column 3 pulses at 1536.
     #[test]
     fn the_lines_of_the_printed_wall() {
-        assert_eq!(text(&printed(1), &[]), "b 0 80\nlargest 256\n");
+        assert_eq!(text(&printed(1), &[]), "b 0 80\nlargest 256 ticks\n");
         assert_eq!(
             text(&printed(1), &[1]),
-            "b 0 80\nr 0 1 256 1\nlargest 256\n"
+            "b 0 80\nr 0 1 256 1\nlargest 256 ticks\n"
         );
         // Column 3 is later than max + h, so it is forwarded at max + h: 12 in row 2.
         assert_eq!(
@@ -197,7 +197,7 @@ mod tests {
             "b 0 80\nr 0 3 258 3\nr 0 1 256 1\nr 0 2 257 2\nr 0 1 256 1\n\
              b 1 36\nr 1 3 169 2\nr 1 2 168 1\n\
              b 2 12\nr 2 3 120 1\n\
-             largest 258\n"
+             largest 258 ticks\n"
         );
     }
 
@@ -208,7 +208,7 @@ mod tests {
         wall.start.fill(1_000);
         wall.rows[0].links[3] = vec![90; 4];
         let (text, outcome) = print(&wall.encode().bytes, &[2]);
-        let due = "b 0 0\nr 0 2 97 2\nb 1 10\nr 1 2 116 1\nlargest 116\n";
+        let due = "b 0 0\nr 0 2 97 2\nb 1 10\nr 1 2 116 1\nlargest 116 ticks\n";
         assert_eq!((text.as_str(), outcome), (due, Outcome::Whole));
     }
 

@@ -12,7 +12,7 @@ use Rattle.reach.proofs.Promises.{largest-enough}
 use Rattle.steps.specs.Number.{settings-number}
 use Rattle.file.specs.Limits.{settings-of, after-settings, start-of, after-start, calls-of, rows-of}
 use Rattle.file.proofs.Promises.{start-at, rows-place, settings-accepted, start-accepted, first-row, few-rows}
-use Rattle.search_lines.specs.Text.{largest-word, line-text}
+use Rattle.search_lines.specs.Text.{largest-text}
 use Rattle.range.specs.File.{start-told, file-told, search-text}
 use Rattle.range.specs.Read.{last-number}
 use Rattle.range.specs.Promises.{gaps-text, Whole-told, Two-files, pulse-of, File-range, Unasked}
@@ -40,7 +40,7 @@ module _ (asked a b : List ℕ) (f k : ℕ) (t : Two-files a b f k) where
   abbrev lines : List ℕ
   lines = gaps-text (settings-of a) asked 0 (take (settings-of a .rows) (start-of a ∷ rows-of a))
 
-  told : search-text asked a ≡ lines ++ line-text largest-word (largest ∷ [])
+  told : search-text asked a ≡ lines ++ largest-text largest
   unfolding Whole-told
   told = whole-told asked a (first-keeps t) (clean t)
 
