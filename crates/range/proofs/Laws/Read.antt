@@ -4,13 +4,11 @@ use mathlib.Core.Bool.{Bool, true, false, _&&_, true≢false}
 use mathlib.Core.List.{List, [], _∷_, _++_, append-assoc}
 use Prim.Native.Nat.{ℕ, _+_, _*_, _^_, _<_}
 use native.Mathlib.Omega.{arith}
-use lib.ListN.{length, length-append}
-use Rattle.settings.proofs.Laws.Cases.{by-order}
+use lib.ListN.{length}
 use Rattle.lines.specs.Number.{decimal}
 use Rattle.lines.specs.Line.{space, line-end}
 use Rattle.lines.specs.Promises.{is-digit, value-of, all-are, spelt-from, spelt, Decimal-right}
 use Rattle.lines.proofs.Promises.{decimal-right}
-use Rattle.lines.proofs.Laws.Number.{one-digit, more-digits}
 use Rattle.search_lines.specs.Text.{ticks-word, largest-text}
 use Rattle.range.specs.Read.{read-from, last-number}
 
@@ -46,14 +44,9 @@ read-anew m (g ∷ gs) i e =
     let (d, ds) = both-hold (is-digit g) (all-are is-digit gs) e in
     rw d (read-digits (0 + value-of g) gs ds)
 
-some-digits : (n : ℕ) → 0 < length (decimal n)
-unfolding decimal
-some-digits n =
-    by-order 10 n (λ p. rw (more-digits 19 n p) (simp length-append (omega arith))) (λ p. rw (one-digit 19 n p) (omega arith))
-
 read-decimal : (m n : ℕ) → n < 10 ^ 20 → read-from m false (decimal n) ≡ n
 unfolding Decimal-right spelt
-read-decimal m n i = let d = decimal-right n i in read-anew m (decimal n) (some-digits n) (d .digits) ∙ d .spell
+read-decimal m n i = let d = decimal-right n i in read-anew m (decimal n) (d .some) (d .digits) ∙ d .spell
 
 -- the last line
 read-largest : (n : ℕ) → n < 10 ^ 20 → (m : ℕ) (w : Bool) → read-from m w (largest-text n) ≡ n
