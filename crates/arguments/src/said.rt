@@ -55,7 +55,7 @@ fn told(written: bool, name: &[u8]) {
     }
 }
 
-// Says which word is wrong, and the use. One that is too long for the buffer is told by that.
+// Says which word is wrong, and the use. One that is too long for the buffer is said to be so.
 fn wrong(i: usize, name: &[u8], usage: &[u8]) {
     let mut buffer = io::buffer();
     let n = os::arg(i, &mut buffer);
@@ -64,7 +64,7 @@ fn wrong(i: usize, name: &[u8], usage: &[u8]) {
         return;
     }
     io::write_all(STDERR_FILENO, name);
-    io::write_all(STDERR_FILENO, b": not understood here: ");
+    io::write_all(STDERR_FILENO, b": unexpected argument: ");
     io::write_all(STDERR_FILENO, &buffer[..n]);
     io::write_all(STDERR_FILENO, b"\n");
     io::write_all(STDERR_FILENO, usage);

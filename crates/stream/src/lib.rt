@@ -159,11 +159,10 @@ pub fn finish(to: i32, state: State, output: &[u8]) -> Outcome
 
 // Has the due part in the window, and room for its text. Text is handed over where a read is to come, so that no row
 // waits for input that it does not need, and where the room is too small.
-pub fn ready(from: i32, to: i32, state: State, input: &mut [u8], output: &[u8]) -> Turn
-    requires { ⌜ Between state (length (now input)) (length (now output)) × (6710 ≤ length (now input)) × (step-room ≤ length (now output)) ⌝ }
+pub fn ready(from: i32, to: i32, state: State, due: usize, input: &mut [u8], output: &[u8]) -> Turn
+    requires { ⌜ Between state (length (now input)) (length (now output)) × (6710 ≤ length (now input)) × (step-room ≤ length (now output)) × (due ≡ due-of (state .wall)) × (due ≤ 6710) ⌝ }
     ensures { λ r. ⌜ made-ready state (now (input .entry)) (length (now (output .entry))) r (now (input .exit)) ⌝ }
 {
-    let due = state.due();
     let window = state.window;
     let text = state.text;
     if !window.lacks(due) {

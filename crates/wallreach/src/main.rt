@@ -4,12 +4,11 @@ use stream::Ended;
 
 fn main() {
     let mut asked = [0u64; 16];
-    let call = arguments::read(1, 1024, &mut asked);
     let from = arguments::source(
-        call,
+        arguments::read(1, 1024, &mut asked),
         b"wallreach",
-        b"usage: wallreach [ROW]... [FILE], at most 16 rows from 1 to 1024\n",
-        b"Reads a wall file without faults, from standard input if no FILE is named, and writes how far one broken tile can reach to standard output.\nThe manual is docs/man/wallreach.1, the file's format docs/FORMAT.md.\n",
+        b"usage: wallreach [ROW]... [FILE], with at most 16 rows from 1 to 1024\n",
+        b"Reads a wall file without faults, from standard input where no FILE is named, and writes how far one broken tile can reach to standard output.\nThe manual is docs/man/wallreach.1, the file's format docs/FORMAT.md.\n",
     );
     if from < 0 {
         return;

@@ -3,7 +3,13 @@ use libc::STDOUT_FILENO;
 use stream::Ended;
 
 fn main() {
-    let from = source();
+    let mut numbers = [0u64; 0];
+    let from = arguments::source(
+        arguments::read(0, 0, &mut numbers),
+        b"wallrun",
+        b"usage: wallrun [FILE]\n",
+        b"Reads a wall file, from standard input where no FILE is named, and writes the pulse times and the seams of its rows to standard output.\nThe manual is docs/man/wallrun.1, the file's format docs/FORMAT.md.\n",
+    );
     if from < 0 {
         return;
     }
@@ -14,14 +20,4 @@ fn main() {
         Ended::ReadFailed => os::fail(b"wallrun: reading"),
         Ended::WriteFailed => os::fail(b"wallrun: writing"),
     }
-}
-
-fn source() -> i32 {
-    let mut numbers = [0u64; 0];
-    arguments::source(
-        arguments::read(0, 0, &mut numbers),
-        b"wallrun",
-        b"usage: wallrun [FILE]\n",
-        b"Reads a wall file, from standard input if no FILE is named, and writes the pulse times and seams of its rows to standard output.\nThe manual is docs/man/wallrun.1, the file's format docs/FORMAT.md.\n",
-    )
 }
