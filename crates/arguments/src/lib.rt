@@ -1,7 +1,4 @@
 // The words of a call: numbers, then the name of a file. One grammar for every program.
-mod said;
-
-pub use said::source;
 ghost use mathlib.Core.Path.{_≡_};
 ghost use mathlib.Core.Bool.{true};
 ghost use Prim.Native.Nat.{_≤_, _<_};

@@ -4,7 +4,7 @@ use stream::Ended;
 
 fn main() {
     let mut asked = [0u64; 16];
-    let from = arguments::source(
+    let from = source::of_call(
         arguments::read(1, 1024, &mut asked),
         b"wallreach",
         b"usage: wallreach [ROW]... [FILE], with at most 16 rows from 1 to 1024\n",

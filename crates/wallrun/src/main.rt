@@ -4,7 +4,7 @@ use stream::Ended;
 
 fn main() {
     let mut numbers = [0u64; 0];
-    let from = arguments::source(
+    let from = source::of_call(
         arguments::read(0, 0, &mut numbers),
         b"wallrun",
         b"usage: wallrun [FILE]\n",

@@ -1,12 +1,13 @@
-// What a program says of its call itself: its use, its version, a word that is wrong, a file that can't be opened.
-use crate::Call;
+// Where the wall file of a call comes from, and what a program says of its call itself: its use, its version, a word that is
+// wrong, a file that can't be opened.
+use arguments::Call;
 use libc::STDERR_FILENO;
 use libc::STDIN_FILENO;
 use libc::STDOUT_FILENO;
 
 // Where the wall file that a call asks for is read from, or -1 where something is said in its place. `usage` is a line,
 // `about` the lines that `--help` prints behind it.
-pub fn source(call: Call, name: &[u8], usage: &[u8], about: &[u8]) -> i32 {
+pub fn of_call(call: Call, name: &[u8], usage: &[u8], about: &[u8]) -> i32 {
     match call {
         Call::Input => {
             return STDIN_FILENO;
