@@ -2,10 +2,11 @@
 //!
 //! Each module renders one part of the document, in its order and words: settings, clocks, the
 //! forwarding rule, the tile, the wall's shape, the row, the seam, the wall file and its printing, and
-//! how far a faulty tile reaches.
+//! how far a faulty tile reaches. `arguments` reads the words of a call.
 //! All sums are made in 128-bit signed numbers, far from any overflow. `generate` and `cases` are no part of
 //! the reference: they make wall files to compare programs on.
 
+pub mod arguments;
 pub mod cases;
 pub mod clock;
 pub mod file;

@@ -2,6 +2,7 @@
 //! `wallreach` prints of a wall without faults.
 
 use std::io::{self, Write};
+use std::ops::RangeInclusive;
 
 use crate::file::{walk, FileRefused, ShownRow, Stop};
 use crate::shape::{is_marked, Shape};
@@ -28,19 +29,8 @@ pub fn hops(f: usize, l: usize) -> usize {
 /// How many rows may be asked for.
 pub const MOST_ASKED: usize = 16;
 
-/// The rows that arguments ask for, or nothing where one is bad or there are too many: each is a number
-/// from 1 to 1,024, in decimal digits alone.
-pub fn rows_asked(arguments: &[String]) -> Option<Vec<usize>> {
-    let row = |argument: &String| {
-        let is_decimal = argument.bytes().all(|byte| byte.is_ascii_digit());
-        let row = argument.parse().ok()?;
-        (is_decimal && (1..=1_024).contains(&row)).then_some(row)
-    };
-    if arguments.len() > MOST_ASKED {
-        return None;
-    }
-    arguments.iter().map(row).collect()
-}
+/// The rows that may be asked for.
+pub const ROWS: RangeInclusive<usize> = 1..=1_024;
 
 /// What came of a wall file.
 #[derive(Clone, Copy, Debug, PartialEq, Eq)]
@@ -152,23 +142,6 @@ mod tests {
             slope[0] = 1;
             slope[w - 1] = w as u64 - 2;
             assert_eq!(largest_difference(&shape, &slope), 1);
-        }
-    }
-
-    #[test]
-    fn rows_are_asked_for_in_decimal() {
-        let asked = |arguments: &[&str]| {
-            let arguments: Vec<String> = arguments.iter().map(|a| a.to_string()).collect();
-            rows_asked(&arguments)
-        };
-        assert_eq!(asked(&[]), Some(vec![]));
-        assert_eq!(asked(&["1024", "1", "7", "7"]), Some(vec![1_024, 1, 7, 7]));
-        assert_eq!(asked(&["2"; 16]), Some(vec![2; 16]));
-        assert_eq!(asked(&["2"; 17]), None);
-        let long = format!("1{}", "0".repeat(30));
-        for bad in ["", "0", "1025", "-1", "+1", "1 ", " 1", "1.0", "0x1", &long] {
-            assert_eq!(asked(&[bad]), None, "{bad}");
-            assert_eq!(asked(&["1", bad, "2"]), None, "{bad}");
         }
     }
 

@@ -111,7 +111,9 @@ fn largest(description: &Description) -> u64 {
     assert_eq!(outcome, Outcome::Whole);
     let text = String::from_utf8(printed).unwrap();
     let last = text.lines().last().unwrap();
-    let number = last.strip_prefix("largest ").and_then(|rest| rest.strip_suffix(" ticks"));
+    let number = last
+        .strip_prefix("largest ")
+        .and_then(|rest| rest.strip_suffix(" ticks"));
     number.unwrap().parse().unwrap()
 }
 
