@@ -1,5 +1,5 @@
-"""interrupted.py read|write|nowait PROGRAM WALL: runs a program on a wall file with its input or its output a socket whose calls a stopped
-and continued process sees interrupted (it has a timeout), or with an input that does not wait; prints its answer and what it says."""
+"""interrupted.py read|write|nowait|nowait-output PROGRAM WALL: runs a program on a wall file with its input or its output a socket whose calls a stopped
+and continued process sees interrupted (it has a timeout), or with one that does not wait; prints its answer and what it says."""
 import os
 import signal
 import socket
@@ -27,6 +27,16 @@ def started(**streams):
     return process
 
 
+# Fills their end, so that the program's first write finds no room, and says by how many bytes.
+def filled():
+    full = 0
+    try:
+        while True:
+            full += theirs.send(bytes(512), socket.MSG_DONTWAIT)
+    except BlockingIOError:
+        return full
+
+
 if side == "read":
     theirs.setsockopt(socket.SOL_SOCKET, socket.SO_RCVTIMEO, AN_HOUR)
     process = started(stdin=theirs, stdout=subprocess.PIPE)
@@ -40,26 +50,26 @@ if side == "read":
     ours.close()
     answer, said = process.communicate()
 elif side == "write":
-    # The socket is filled first, so that the program's first write waits; what filled it is taken off the answer.
     theirs.setsockopt(socket.SOL_SOCKET, socket.SO_SNDTIMEO, AN_HOUR)
-    filled = 0
-    try:
-        while True:
-            filled += theirs.send(bytes(512), socket.MSG_DONTWAIT)
-    except BlockingIOError:
-        pass
+    full = filled()
     process = started(stdin=open(wall, "rb"), stdout=theirs)
     for _ in range(3):
         stopped_and_continued(process)
     answer = b""
     while piece := ours.recv(65536):
         answer += piece
-    answer, said = answer[filled:], process.stderr.read()
+    answer, said = answer[full:], process.stderr.read()
     process.wait()
-else:
+elif side == "nowait":
     theirs.setblocking(False)
     process = started(stdin=theirs, stdout=subprocess.PIPE)
     answer, said = process.communicate()
+else:
+    theirs.setblocking(False)
+    filled()
+    process = started(stdin=open(wall, "rb"), stdout=theirs)
+    answer, said = b"", process.stderr.read()
+    process.wait()
 sys.stdout.buffer.write(answer)
 sys.stderr.buffer.write(said)
 sys.exit(process.returncode)

@@ -7,7 +7,7 @@ ghost use Rattle.arguments.specs.Words.{same, number-word, option-word, 
 ghost use Rattle.arguments.specs.Call.{Some-word, Called};
 
 // What a word is by itself.
-pub enum Word {
+enum Word {
     // Digits that spell a number within the limits.
     Number(u64),
     // The name of a file.

@@ -8,7 +8,7 @@ fn main() {
         arguments::read(1, 1024, &mut asked),
         b"wallreach",
         b"usage: wallreach [ROW]... [FILE], with at most 16 rows from 1 to 1024\n",
-        b"Reads a wall file without faults, from standard input where no FILE is named, and writes how far one broken tile can reach to standard output.\nThe manual is docs/man/wallreach.1, the file's format docs/FORMAT.md.\n",
+        b"Reads a wall file without faults, or standard input, and writes how far one\nbroken tile can reach to standard output. The manual is docs/man/wallreach.1.\n",
     );
     if from < 0 {
         return;

@@ -8,7 +8,7 @@ fn main() {
         arguments::read(0, 0, &mut numbers),
         b"wallrun",
         b"usage: wallrun [FILE]\n",
-        b"Reads a wall file, from standard input where no FILE is named, and writes the pulse times and the seams of its rows to standard output.\nThe manual is docs/man/wallrun.1, the file's format docs/FORMAT.md.\n",
+        b"Reads a wall file, or standard input, and writes the pulse times and the seams\nof its rows to standard output. The manual is docs/man/wallrun.1.\n",
     );
     if from < 0 {
         return;
