@@ -15,10 +15,11 @@ use Rattle.file.proofs.Promises.{start-at, rows-place, settings-accepted, start
 use Rattle.search_lines.specs.Text.{largest-text}
 use Rattle.range.specs.File.{start-told, file-told, search-text}
 use Rattle.range.specs.Read.{last-number}
-use Rattle.range.specs.Promises.{gaps-text, Whole-told, Two-files, pulse-of, File-range, Unasked}
+use Rattle.range.specs.Promises.{gaps-text, Whole-told, Cut-told, Two-files, pulse-of, File-range, Unasked}
 use Rattle.range.proofs.Laws.Unasked.{unasked-same}
 use Rattle.range.proofs.Laws.Whole.{rows-whole}
 use Rattle.range.proofs.Laws.Read.{last-largest}
+use Rattle.range.proofs.Laws.Cut.{told-whole}
 use Rattle.range.proofs.Laws.Files.{first-keeps, all-rows, clean, runs-of-files, reach-small}
 
 pub unasked : Unasked
@@ -31,6 +32,14 @@ whole-told asked file k h =
     let s = settings-of file in
     rw (eq-eqb (settings-number file) 0 (settings-accepted file k), eq-eqb (start-at file) 0 (start-accepted file k))
     (rows-whole s asked (s .rows) 0 (rows-place file) 0 (start-of file) (after-start file) (k .rows-keep) (first-row file k) (omega arith) (omega (arith, few-rows file k)) h)
+
+pub cut-told : Cut-told
+unfolding Cut-told Whole-told
+cut-told asked file k h n less begin e =
+    let s = settings-of file in
+    let rs = take (s .rows) (start-of file ∷ rows-of file) in
+    let told = whole-told asked file k h in
+    told-whole s asked rs (largest-of s 0 0 rs) n (rw told at less) begin (rw told at e)
 
 module _ (asked a b : List ℕ) (f k : ℕ) (t : Two-files a b f k) where
   -- what is printed of the first, and the number that it ends with
