@@ -1,10 +1,7 @@
 -- The proof of what specs/Promises.antt states. Assumes nothing.
-use mathlib.Core.Path.{_≡_, refl, sym, _∙_}
-use mathlib.Core.Bool.{true}
-use Prim.Native.Nat.{ℕ, zero, suc, _≤_, _<_}
+use mathlib.Core.Path.{sym, _∙_}
 use native.Mathlib.Omega.{arith}
 use borrow.Author.Tests.{le-leb}
-use lib.ListN.{length, getD}
 use Rattle.lines.specs.Number.{decimal}
 use Rattle.lines.specs.Promises.{Decimal-right}
 use Rattle.lines.proofs.Promises.{decimal-right}

@@ -11,7 +11,7 @@ use Rattle.arguments.specs.declared.Word.the-variants as word
 use Rattle.arguments.specs.declared.Call.{Call}
 use Rattle.arguments.specs.declared.Call.the-variants as call
 use Rattle.arguments.specs.Words.{word-of}
-use Rattle.arguments.specs.Call.{named, by-word, call-from, call-of, with-number, numbers-in, Some-word, Called}
+use Rattle.arguments.specs.Call.{named, by-word, call-from, call-of, with-number, numbers-in, Called}
 
 module _ (least largest : ℕ) where
   -- the words so far are numbers, which stand in front: what a call asks for is what the words behind them ask for

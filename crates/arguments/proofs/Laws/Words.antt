@@ -9,7 +9,6 @@ use lib.Dec.{leb, ltb}
 use lib.ListN.{length, getD, drop, drop-of-length-le}
 use lib.Seq.{drop-cons}
 use Rattle.lines.specs.Promises.{is-digit, all-are, value-of, spelt-from, spelt}
-use Rattle.arguments.specs.declared.Word.{Word}
 use Rattle.arguments.specs.declared.Word.the-variants.{Number, Name, Other}
 use Rattle.arguments.specs.Words.{same, number-word, option-word, word-of}
 

@@ -1,7 +1,7 @@
 -- `run_in` ends, as its contract says. The loop's invariant: a chain of turns leads from the start to the state. The measure is how many
 -- steps are left. Assumes nothing.
 use mathlib.Core.Path.{_≡_, refl, sym, _∙_}
-use Prim.Native.Nat.{_≤_, _<_}
+use Prim.Native.Nat.{_≤_}
 use native.Mathlib.Omega.{arith}
 use borrow.Author.Needs.{needs}
 use lib.ListN.{length}

@@ -1,5 +1,4 @@
 -- `write_some` meets its contract. Assumes nothing.
-use native.Mathlib.Omega.{arith}
 use borrow.Author.Needs.{needs}
 use Rattle.stream.proofs.write_some.Statement.{statement}
 use Rattle.stream.proofs.write_some.Tie as tie

@@ -1,7 +1,6 @@
 -- `read_some` meets its contract: it ends, and the room is as long as it was. Assumes nothing.
 use mathlib.Core.Path.{_≡_, refl}
 use lib.ListN.{length}
-use native.Mathlib.Omega.{arith}
 use borrow.Author.Needs.{needs}
 use Rattle.window.proofs.read_some.Statement.{statement}
 use Rattle.window.proofs.read_some.Tie as tie
