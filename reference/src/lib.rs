@@ -1,10 +1,11 @@
 //! A plain reference for the requirements (docs/REQUIREMENTS.md) of the pulse planner for detector walls.
 //!
 //! Each module renders one section of them: settings, clocks, the forwarding rule, the tile, the wall's
-//! shape, the row, the seam, the wall file and its printing, and how far a faulty tile reaches.
+//! shape, the row, the seam, the wall file and its printing, how far a faulty tile reaches, and the words of a call.
 //! All sums are made in 128-bit signed numbers, far from any overflow. `generate` and `cases` are no part of
 //! the reference: they make wall files to compare programs on.
 
+pub mod arguments;
 pub mod cases;
 pub mod clock;
 pub mod file;

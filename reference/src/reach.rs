@@ -2,6 +2,7 @@
 //! `wallreach` prints of a wall without faults.
 
 use std::io::{self, Write};
+use std::ops::RangeInclusive;
 
 use crate::file::{walk, FileRefused, ShownRow, Stop};
 use crate::shape::{is_marked, Shape};
@@ -28,19 +29,8 @@ pub fn hops(f: usize, l: usize) -> usize {
 /// How many rows may be asked for.
 pub const MOST_ASKED: usize = 16;
 
-/// The rows that arguments ask for, or nothing where one is bad or there are too many: each is a number
-/// from 1 to 1,024, in decimal digits alone.
-pub fn rows_asked(arguments: &[String]) -> Option<Vec<usize>> {
-    let row = |argument: &String| {
-        let is_decimal = argument.bytes().all(|byte| byte.is_ascii_digit());
-        let row = argument.parse().ok()?;
-        (is_decimal && (1..=1_024).contains(&row)).then_some(row)
-    };
-    if arguments.len() > MOST_ASKED {
-        return None;
-    }
-    arguments.iter().map(row).collect()
-}
+/// The rows that may be asked for.
+pub const ROWS: RangeInclusive<usize> = 1..=1_024;
 
 /// What came of a wall file.
 #[derive(Clone, Copy, Debug, PartialEq, Eq)]
@@ -74,7 +64,7 @@ pub fn wallreach(file: &[u8], asked: &[usize], out: &mut impl Write) -> io::Resu
     let mut largest = 0;
     match walk(file, |row| show(&row, asked, &mut largest, out)) {
         Ok(()) => {
-            writeln!(out, "largest {largest}")?;
+            writeln!(out, "largest {largest} ticks")?;
             Ok(Outcome::Whole)
         }
         Err(Stop::Refused(refused)) => {
@@ -156,23 +146,6 @@ mod tests {
     }
 
     #[test]
-    fn rows_are_asked_for_in_decimal() {
-        let asked = |arguments: &[&str]| {
-            let arguments: Vec<String> = arguments.iter().map(|a| a.to_string()).collect();
-            rows_asked(&arguments)
-        };
-        assert_eq!(asked(&[]), Some(vec![]));
-        assert_eq!(asked(&["1024", "1", "7", "7"]), Some(vec![1_024, 1, 7, 7]));
-        assert_eq!(asked(&["2"; 16]), Some(vec![2; 16]));
-        assert_eq!(asked(&["2"; 17]), None);
-        let long = format!("1{}", "0".repeat(30));
-        for bad in ["", "0", "1025", "-1", "+1", "1 ", " 1", "1.0", "0x1", &long] {
-            assert_eq!(asked(&[bad]), None, "{bad}");
-            assert_eq!(asked(&["1", bad, "2"]), None, "{bad}");
-        }
-    }
-
-    #[test]
     fn the_bound_of_demand_3() {
         assert_eq!(ticks(80, 12, 0, 1), 2 * 80 + 8 * 12);
         assert_eq!(ticks(80, 12, 3, 10), 2 * 80 + 8 * 12 + 6);
@@ -186,10 +159,10 @@ mod tests {
     /// The printed wall: B is 80 in row 0, and 36 in row 1, where column 3 pulses at 1536.
     #[test]
     fn the_lines_of_the_printed_wall() {
-        assert_eq!(text(&printed(1), &[]), "b 0 80\nlargest 256\n");
+        assert_eq!(text(&printed(1), &[]), "b 0 80\nlargest 256 ticks\n");
         assert_eq!(
             text(&printed(1), &[1]),
-            "b 0 80\nr 0 1 256 1\nlargest 256\n"
+            "b 0 80\nr 0 1 256 1\nlargest 256 ticks\n"
         );
         // Column 3 is later than max + h, so it is forwarded at max + h: 12 in row 2.
         assert_eq!(
@@ -197,7 +170,7 @@ mod tests {
             "b 0 80\nr 0 3 258 3\nr 0 1 256 1\nr 0 2 257 2\nr 0 1 256 1\n\
              b 1 36\nr 1 3 169 2\nr 1 2 168 1\n\
              b 2 12\nr 2 3 120 1\n\
-             largest 258\n"
+             largest 258 ticks\n"
         );
     }
 
@@ -208,7 +181,7 @@ mod tests {
         wall.start.fill(1_000);
         wall.rows[0].links[3] = vec![90; 4];
         let (text, outcome) = print(&wall.encode().bytes, &[2]);
-        let due = "b 0 0\nr 0 2 97 2\nb 1 10\nr 1 2 116 1\nlargest 116\n";
+        let due = "b 0 0\nr 0 2 97 2\nb 1 10\nr 1 2 116 1\nlargest 116 ticks\n";
         assert_eq!((text.as_str(), outcome), (due, Outcome::Whole));
     }
 

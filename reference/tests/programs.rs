@@ -67,7 +67,7 @@ fn walldiff(program: &str, count: &str, name: &str) -> Output {
 /// A program that does what wallref does, and then this line of shell.
 fn wallref_and(name: &str, then: &str) -> String {
     let path = folder(name).join("program").to_str().unwrap().to_string();
-    let text = format!("#!/bin/sh\n\"{WALLREF}\"\n{then}");
+    let text = format!("#!/bin/sh\n\"{WALLREF}\" \"$@\"\n{then}");
     // A process of its own writes it: a file that this one still has open can't be run.
     let write = r#"printf '%s\n' "$1" > "$0" && chmod +x "$0""#;
     let status = Command::new("sh")
@@ -107,13 +107,34 @@ fn reachref_prints_what_the_library_prints() {
 fn reachref_tells_a_bad_argument_and_prints_nothing() {
     let file = generate::file(0);
     let many = ["1"; 17];
-    for arguments in [&["0"][..], &["1025"], &["2", "x"], &[""], &many] {
+    for arguments in [&["0"][..], &["1025"], &["2", "x", "3"], &[""], &many] {
         let output = run(REACHREF, arguments, &file);
         assert_eq!(output.status.code(), Some(2), "{arguments:?}");
         assert!(output.stdout.is_empty());
         assert!(!output.stderr.is_empty());
     }
     assert!(run(REACHREF, &many[..16], &file).status.success());
+}
+
+#[test]
+fn both_read_a_named_file() {
+    let path = folder("named").join("some.wall");
+    let file = generate::file(1);
+    std::fs::write(&path, &file).unwrap();
+    for program in [WALLREF, REACHREF] {
+        let named = run(program, &[path.to_str().unwrap()], &[]);
+        assert!(named.status.success());
+        assert_eq!(named.stdout, run(program, &[], &file).stdout);
+        let missing = run(program, &["no-such.wall"], &file);
+        assert_eq!(missing.status.code(), Some(1));
+        assert!(missing.stdout.is_empty());
+        assert!(!missing.stderr.is_empty());
+        for option in ["--help", "--version"] {
+            let told = run(program, &[option], &file);
+            assert!(told.status.success() && !told.stdout.is_empty());
+        }
+        assert_eq!(run(program, &["-x"], &file).status.code(), Some(2));
+    }
 }
 
 #[test]
@@ -225,7 +246,7 @@ fn walldiff_tells_what_is_wrong_beside_the_printed_bytes() {
 
 #[test]
 fn walldiff_holds_wallreach_against_its_own_reference() {
-    // wallref takes no notice of arguments and prints other lines.
+    // wallref takes no rows and prints other lines.
     let output = walldiff_with(&["--reach", WALLREF, "50", "0"], "other");
     let text = String::from_utf8(output.stdout).unwrap();
     assert_eq!(output.status.code(), Some(1));

@@ -111,7 +111,10 @@ fn largest(description: &Description) -> u64 {
     assert_eq!(outcome, Outcome::Whole);
     let text = String::from_utf8(printed).unwrap();
     let last = text.lines().last().unwrap();
-    last.strip_prefix("largest ").unwrap().parse().unwrap()
+    let number = last
+        .strip_prefix("largest ")
+        .and_then(|rest| rest.strip_suffix(" ticks"));
+    number.unwrap().parse().unwrap()
 }
 
 /// Runs the wall with one tile of row f faulty and checks each pulse of both runs against demand 3;

@@ -1,3 +1,3 @@
 -- The laws of the definitions, each file over one of them.
-pub mod Row
-pub mod Rows
+pub mod Words
+pub mod Call

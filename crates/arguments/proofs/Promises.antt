@@ -1,15 +1,18 @@
 -- The proof of what specs/Promises.antt states. Assumes nothing.
-use Prim.Native.Nat.{_^_, _<_}
+use mathlib.Core.Path.{sym, _∙_}
 use native.Mathlib.Omega.{arith}
 use borrow.Author.Tests.{le-leb}
+use Rattle.lines.specs.Number.{decimal}
 use Rattle.lines.specs.Promises.{Decimal-right}
 use Rattle.lines.proofs.Promises.{decimal-right}
-use Rattle.arguments.specs.Asked.{row-named}
+use Rattle.arguments.specs.Words.{number-word}
 use Rattle.arguments.specs.Promises.{Decimal-named}
+use Rattle.arguments.proofs.Laws.Words.{digit-at, is-number}
 
 pub decimal-named : Decimal-named
-unfolding Decimal-named row-named Decimal-right
-decimal-named n i j =
-    let few : n < 10 ^ 20 = omega (arith, j) in
-    let d = decimal-right n few in
-    rw (d .digits, d .spell, le-leb n 1024 j)
+unfolding Decimal-named number-word Decimal-right
+decimal-named least largest n i j k =
+    let d = decimal-right n k in
+    let first = digit-at (decimal n) 0 (d .digits) (d .some) in
+    sym (is-number least largest (decimal n) (λ e. omega (arith, d .some, e)) (λ e. omega (arith, first .0, e)) (d .digits))
+    ∙ rw (d .spell, le-leb least n i, le-leb n largest j)

@@ -1,39 +1,76 @@
--- Words and the rows that they name, and how many may ask. Proved in proofs/Cases.antt. Assumes nothing.
+-- Words and calls at literals. Each statement is proved in proofs/Cases.antt, under its name in small letters. Assumes nothing.
 use mathlib.Core.Path.{_≡_}
-use mathlib.Core.Bool.{true, false}
 use mathlib.Core.List.{List, [], _∷_}
 use Prim.Native.Nat.{ℕ, zero, suc}
-use Rattle.arguments.specs.Asked.{rows-named, ask}
+use Prim.Native.String.{String}
+use Rattle.file.specs.Cases.{codes}
+use Rattle.arguments.specs.declared.Word.{Word}
+use Rattle.arguments.specs.declared.Word.the-variants as word
+use Rattle.arguments.specs.declared.Call.{Call}
+use Rattle.arguments.specs.declared.Call.the-variants as call
+use Rattle.arguments.specs.Words.{word-of}
+use Rattle.arguments.specs.Call.{call-of, numbers-in}
 
-abbrev pub word-7 : List ℕ
-word-7 = 55 ∷ []
+-- words where numbers are rows, from 1 to 1,024
+unfoldable pub words-are : List String → List Word
+words-are [] = []
+words-are (s ∷ ss) = word-of 1 1024 (codes s) ∷ words-are ss
 
--- `1`, `7`, `007`, `1024`; then `0`, `1025`, no byte at all, `12a`, `-1`, ` 1`, `1e3`, `10240`, which name none
-unfoldable pub Words-named : Type 0
-Words-named =
-    rows-named
-    (
-    (49 ∷ [])
-    ∷ word-7
-    ∷ (48 ∷ 48 ∷ 55 ∷ [])
-    ∷ (49 ∷ 48 ∷ 50 ∷ 52 ∷ [])
-    ∷ (48 ∷ [])
-    ∷ (49 ∷ 48 ∷ 50 ∷ 53 ∷ [])
-    ∷ []
-    ∷ (49 ∷ 50 ∷ 97 ∷ [])
-    ∷ (45 ∷ 49 ∷ [])
-    ∷ (32 ∷ 49 ∷ [])
-    ∷ (49 ∷ 101 ∷ 51 ∷ [])
-    ∷ (49 ∷ 48 ∷ 50 ∷ 52 ∷ 48 ∷ [])
-    ∷ []
-    )
-    ≡ 1 ∷ 7 ∷ 7 ∷ 1024 ∷ 0 ∷ 0 ∷ 0 ∷ 0 ∷ 0 ∷ 0 ∷ 0 ∷ 0 ∷ []
+unfoldable pub Number-cases : Type 0
+Number-cases =
+    (words-are ("1" ∷ "7" ∷ "007" ∷ "1024" ∷ []) ≡ word.Number 1 ∷ word.Number 7 ∷ word.Number 7 ∷ word.Number 1024 ∷ [])
+    × (words-are ("0" ∷ "1025" ∷ "10240" ∷ "-1" ∷ "" ∷ []) ≡ word.Other ∷ word.Other ∷ word.Other ∷ word.Other ∷ word.Other ∷ [])
+    × (word-of 0 4398046511104 (codes "0") ≡ word.Number 0)
+    × (word-of 0 4398046511104 (codes "4398046511104") ≡ word.Number 4398046511104)
+    × (word-of 0 4398046511104 (codes "4398046511105") ≡ word.Other)
 
-abbrev pub sevens : (n : ℕ) → List (List ℕ)
+-- any other word names a file, unless it begins with `-`; `./` in front makes a name of any word
+unfoldable pub Name-cases : Type 0
+Name-cases =
+    (words-are ("some.wall" ∷ "12a" ∷ " 1" ∷ "1e3" ∷ "./12" ∷ "./-x" ∷ []) ≡ word.Name ∷ word.Name ∷ word.Name ∷ word.Name ∷ word.Name ∷ word.Name ∷ [])
+    × (words-are ("--help" ∷ "--version" ∷ []) ≡ word.Help ∷ word.Version ∷ [])
+    × (words-are ("-" ∷ "--" ∷ "-h" ∷ "--hel" ∷ "--helpx" ∷ "--Version" ∷ []) ≡ word.Other ∷ word.Other ∷ word.Other ∷ word.Other ∷ word.Other ∷ word.Other ∷ [])
+
+unfoldable pub all-codes : List String → List (List ℕ)
+all-codes [] = []
+all-codes (s ∷ ss) = codes s ∷ all-codes ss
+
+-- a call with room for 16 rows, and one with room for none
+unfoldable pub with-rows : List String → Call
+with-rows ss = call-of 1 1024 16 (all-codes ss)
+
+unfoldable pub without : List String → Call
+without ss = call-of 0 0 0 (all-codes ss)
+
+abbrev pub sevens : (n : ℕ) → List String
 sevens zero = []
-sevens (suc n) = word-7 ∷ sevens n
+sevens (suc n) = "7" ∷ sevens n
 
--- none, 16 and 17 words, and one that names no row among them
-unfoldable pub Words-asked : Type 0
-Words-asked =
-    (ask 16 [] ≡ true) × (ask 16 (sevens 16) ≡ true) × (ask 16 (sevens 17) ≡ false) × (ask 16 (word-7 ∷ (48 ∷ []) ∷ []) ≡ false)
+unfoldable pub Call-cases : Type 0
+Call-cases =
+    (with-rows [] ≡ call.Input)
+    × (with-rows ("3" ∷ "1" ∷ []) ≡ call.Input)
+    × (with-rows ("some.wall" ∷ []) ≡ call.File 1)
+    × (with-rows ("3" ∷ "1" ∷ "some.wall" ∷ []) ≡ call.File 3)
+    × (with-rows (sevens 16) ≡ call.Input)
+    × (without [] ≡ call.Input)
+    × (without ("some.wall" ∷ []) ≡ call.File 1)
+    × (with-rows ("--help" ∷ "3" ∷ []) ≡ call.Help)
+    × (without ("--version" ∷ []) ≡ call.Version)
+
+-- the place of the word that is wrong
+unfoldable pub Wrong-cases : Type 0
+Wrong-cases =
+    (with-rows (sevens 17) ≡ call.Wrong 17)
+    × (with-rows ("3" ∷ "0" ∷ "some.wall" ∷ []) ≡ call.Wrong 2)
+    × (with-rows ("some.wall" ∷ "3" ∷ []) ≡ call.Wrong 2)
+    × (with-rows ("3" ∷ "--help" ∷ []) ≡ call.Wrong 2)
+    × (with-rows ("3" ∷ "--version" ∷ []) ≡ call.Wrong 2)
+    × (without ("12" ∷ []) ≡ call.Wrong 1)
+    × (without ("some.wall" ∷ "other.wall" ∷ []) ≡ call.Wrong 2)
+    × (without ("-x" ∷ []) ≡ call.Wrong 1)
+
+-- the numbers in front, in their order
+unfoldable pub Front-cases : Type 0
+Front-cases =
+    (numbers-in 1 1024 16 (all-codes ("3" ∷ "1" ∷ "some.wall" ∷ [])) ≡ 3 ∷ 1 ∷ []) × (numbers-in 1 1024 1 (all-codes ("3" ∷ "1" ∷ [])) ≡ 3 ∷ [])

@@ -1,3 +1,4 @@
-pub mod Asked
+pub mod Words
+pub mod Call
 pub mod Cases
 pub mod Promises

@@ -48,8 +48,12 @@ fn run_in(
     ensures { λ r. ⌜ Ends lines-step tt r tt (now (row .exit)) (now (output .exit)) ⌝ }
 {
     let mut state = State::start();
-    while state.due() != 0 {
-        match ready(from, to, state, input, output) {
+    loop {
+        let due = state.due();
+        if due == 0 {
+            return finish(to, state, output);
+        }
+        match ready(from, to, state, due, input, output) {
             Turn::On(next) => {
                 state = advance(tables, links, next, input, row, output);
             }
@@ -58,7 +62,6 @@ fn run_in(
             }
         }
     }
-    finish(to, state, output)
 }
 
 // Takes the step of the due part, or of what is left where the input has ended.

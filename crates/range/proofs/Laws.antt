@@ -2,5 +2,6 @@
 pub mod File
 pub mod Whole
 pub mod Read
+pub mod Cut
 pub mod Files
 pub mod Unasked

@@ -1,6 +1,6 @@
 -- The proofs of what specs/Promises.antt states. Assumes nothing.
 use mathlib.Core.Path.{_≡_, _∙_, ap}
-use mathlib.Core.List.{List, [], _∷_, _++_}
+use mathlib.Core.List.{List, _∷_, _++_}
 use Prim.Native.Nat.{ℕ, _≤_, _<_}
 use lib.ListN.{take}
 use native.Mathlib.Omega.{arith}
@@ -12,13 +12,14 @@ use Rattle.reach.proofs.Promises.{largest-enough}
 use Rattle.steps.specs.Number.{settings-number}
 use Rattle.file.specs.Limits.{settings-of, after-settings, start-of, after-start, calls-of, rows-of}
 use Rattle.file.proofs.Promises.{start-at, rows-place, settings-accepted, start-accepted, first-row, few-rows}
-use Rattle.search_lines.specs.Text.{largest-word, line-text}
+use Rattle.search_lines.specs.Text.{largest-text}
 use Rattle.range.specs.File.{start-told, file-told, search-text}
 use Rattle.range.specs.Read.{last-number}
-use Rattle.range.specs.Promises.{gaps-text, Whole-told, Two-files, pulse-of, File-range, Unasked}
+use Rattle.range.specs.Promises.{gaps-text, Whole-told, Cut-told, Two-files, pulse-of, File-range, Unasked}
 use Rattle.range.proofs.Laws.Unasked.{unasked-same}
 use Rattle.range.proofs.Laws.Whole.{rows-whole}
 use Rattle.range.proofs.Laws.Read.{last-largest}
+use Rattle.range.proofs.Laws.Cut.{told-whole}
 use Rattle.range.proofs.Laws.Files.{first-keeps, all-rows, clean, runs-of-files, reach-small}
 
 pub unasked : Unasked
@@ -32,6 +33,14 @@ whole-told asked file k h =
     rw (eq-eqb (settings-number file) 0 (settings-accepted file k), eq-eqb (start-at file) 0 (start-accepted file k))
     (rows-whole s asked (s .rows) 0 (rows-place file) 0 (start-of file) (after-start file) (k .rows-keep) (first-row file k) (omega arith) (omega (arith, few-rows file k)) h)
 
+pub cut-told : Cut-told
+unfolding Cut-told Whole-told
+cut-told asked file k h n less begin e =
+    let s = settings-of file in
+    let rs = take (s .rows) (start-of file ∷ rows-of file) in
+    let told = whole-told asked file k h in
+    told-whole s asked rs (largest-of s 0 0 rs) n (rw told at less) begin (rw told at e)
+
 module _ (asked a b : List ℕ) (f k : ℕ) (t : Two-files a b f k) where
   -- what is printed of the first, and the number that it ends with
   abbrev largest : ℕ
@@ -40,7 +49,7 @@ module _ (asked a b : List ℕ) (f k : ℕ) (t : Two-files a b f k) where
   abbrev lines : List ℕ
   lines = gaps-text (settings-of a) asked 0 (take (settings-of a .rows) (start-of a ∷ rows-of a))
 
-  told : search-text asked a ≡ lines ++ line-text largest-word (largest ∷ [])
+  told : search-text asked a ≡ lines ++ largest-text largest
   unfolding Whole-told
   told = whole-told asked a (first-keeps t) (clean t)
 

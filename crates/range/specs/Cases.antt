@@ -17,11 +17,11 @@ broken-file = put 81 (8 ∷ []) (put 163 at-1000 (put 181 at-1000 (put 207 at-10
 -- the printed wall where row 1 is asked for, and with a byte more; the broken one; no bytes
 unfoldable pub Printed-cases : Type 0
 Printed-cases =
-    (search-text (1 ∷ []) printed-file ≡ printed ("b 0 80" ∷ "r 0 1 256 1" ∷ "largest 256" ∷ []))
+    (search-text (1 ∷ []) printed-file ≡ printed ("b 0 80" ∷ "r 0 1 256 1" ∷ "largest 256 ticks" ∷ []))
     × (search-text [] (printed-file ++ (0 ∷ [])) ≡ printed ("b 0 80" ∷ "refused 44 at 257" ∷ []))
     × (search-text (1 ∷ []) broken-file ≡ printed ("faulty 0 3" ∷ []))
     × (search-text [] [] ≡ printed ("refused 43 at 0" ∷ []))
 
--- the number that a text ends with
+-- the last number in a text
 unfoldable pub Read-cases : Type 0
-Read-cases = (last-number (printed ("b 0 80" ∷ "r 0 1 256 1" ∷ "largest 256" ∷ [])) ≡ 256) × (last-number (printed ("largest 0" ∷ [])) ≡ 0)
+Read-cases = (last-number (printed ("b 0 80" ∷ "r 0 1 256 1" ∷ "largest 256 ticks" ∷ [])) ≡ 256) × (last-number (printed ("largest 0 ticks" ∷ [])) ≡ 0)

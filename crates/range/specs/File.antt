@@ -13,7 +13,7 @@ use Rattle.lines.specs.Line.{refused-line}
 use Rattle.fields.specs.Field.{body}
 use Rattle.contents.specs.Contents.{settings-size, settings-in, start-size, times-in, row-size, marks-in, call-in}
 use Rattle.steps.specs.Number.{settings-number, start-number, row-number, row-offset}
-use Rattle.search_lines.specs.Text.{faulty-word, largest-word, line-text, gap-text}
+use Rattle.search_lines.specs.Text.{faulty-word, line-text, largest-text, gap-text}
 use Rattle.telling.specs.Telling.{first-marked}
 
 -- row l's lines, and then what follows with the largest reach of the rows so far; every row of a wall file has them (`Row-surveyed`)
@@ -25,7 +25,7 @@ with-lines s asked l (surveyed.Refused n) rest = []
 -- n rows after row l, whose times are given; m is the largest reach of the rows before it. Row l's lines come when row l + 1 is
 -- accepted, since its marks come with it; a faulty tile ends the search; the largest comes when the file has ended rightly.
 unfoldable pub rows-told : Settings → (asked : List ℕ) → (n l at m : ℕ) → (row rest : List ℕ) → List ℕ
-rows-told s asked zero l at m ts bs = cond (eqb (length bs) 0) (line-text largest-word (m ∷ [])) (refused-line 44 at)
+rows-told s asked zero l at m ts bs = cond (eqb (length bs) 0) (largest-text m) (refused-line 44 at)
 rows-told s asked (suc n) l at m ts bs =
     let w = s .width in
     let c = first-marked w (marks-in w bs) in

@@ -4,7 +4,7 @@ use mathlib.Core.Path.{_≡_}
 use mathlib.Core.Bool.{false}
 use mathlib.Core.List.{List, [], _∷_, _++_}
 use Prim.Native.Nat.{ℕ, suc, _≤_, _<_}
-use lib.ListN.{getD, take, replicate}
+use lib.ListN.{length, getD, take, replicate}
 use Rattle.settings.specs.declared.Settings.{Settings}
 use Rattle.columns.specs.Marks.{marked}
 use Rattle.runs.specs.Run.{call-at, row-at}
@@ -13,7 +13,8 @@ use Rattle.reach.specs.Survey.{largest-of}
 use Rattle.steps.specs.Shown.{number-shown}
 use Rattle.file.specs.File.{shown}
 use Rattle.file.specs.Limits.{settings-of, start-of, calls-of, rows-of, Keeps}
-use Rattle.search_lines.specs.Text.{largest-word, line-text, gap-text}
+use Rattle.lines.specs.Line.{line-end}
+use Rattle.search_lines.specs.Text.{ticks-word, largest-text, gap-text}
 use Rattle.range.specs.File.{search-text}
 use Rattle.range.specs.Read.{last-number}
 
@@ -30,7 +31,14 @@ Whole-told =
     ((l c : ℕ) → l < settings-of file .rows → c < settings-of file .width → marked (call-at (calls-of file) l .marks) c ≡ false) →
     let s = settings-of file in
     let before-last = take (s .rows) (start-of file ∷ rows-of file) in
-    search-text asked file ≡ gaps-text s asked 0 before-last ++ line-text largest-word (largest-of s 0 0 before-last ∷ [])
+    search-text asked file ≡ gaps-text s asked 0 before-last ++ largest-text (largest-of s 0 0 before-last)
+
+-- an answer that is cut does not end as the whole one does: no shorter beginning of it ends with `ticks` and a line feed
+unfoldable pub Cut-told : Type 0
+Cut-told =
+    (asked file : List ℕ) → Keeps file →
+    ((l c : ℕ) → l < settings-of file .rows → c < settings-of file .width → marked (call-at (calls-of file) l .marks) c ≡ false) →
+    (n : ℕ) → n < length (search-text asked file) → (begin : List ℕ) → take n (search-text asked file) ≡ begin ++ (ticks-word ++ (line-end ∷ [])) → ⊥
 
 -- a place that holds 0 asks for no row: of 16 places those that words did not fill change nothing
 unfoldable pub Unasked : Type 0
@@ -50,10 +58,10 @@ pub record Two-files (a b : List ℕ) (f k : ℕ) : Type 0 where
 unfoldable pub pulse-of : (file : List ℕ) → (row column : ℕ) → ℕ
 pulse-of a l c = getD (row-at (start-of a) (rows-of a) l) c 0
 
--- what is printed of the first ends with `largest` and a number, and no pulse of the two differs by more
+-- what is printed of the first ends with `largest`, a number and `ticks`, and no pulse of the two differs by more
 pub record Ranged (asked a b : List ℕ) : Type 0 where
   pub lines : List ℕ
-  pub printed : search-text asked a ≡ lines ++ line-text largest-word (last-number (search-text asked a) ∷ [])
+  pub printed : search-text asked a ≡ lines ++ largest-text (last-number (search-text asked a))
   pub enough : (l c : ℕ) → l ≤ settings-of a .rows → c < settings-of a .width → apart (pulse-of a l c) (pulse-of b l c) ≤ last-number (search-text asked a)
 
 -- the search range of a file, from its bytes, whichever tile breaks and whatever it then sends

@@ -65,8 +65,15 @@ fn run_in(
 {
     let mut state = State::start();
     let mut largest = 0;
-    while state.due() != 0 {
-        match ready(from, to, state, input, output) {
+    loop {
+        let due = state.due();
+        if due == 0 {
+            return Found {
+                outcome: finish(to, state, output),
+                largest,
+            };
+        }
+        match ready(from, to, state, due, input, output) {
             Turn::On(made) => {
                 let moved = advance(asked, made, largest, input, row, next, output);
                 state = moved.state;
@@ -79,10 +86,6 @@ fn run_in(
                 };
             }
         }
-    }
-    Found {
-        outcome: finish(to, state, output),
-        largest,
     }
 }
 

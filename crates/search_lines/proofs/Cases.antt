@@ -8,9 +8,9 @@ use Rattle.reach.specs.Span.{end-within, first-within, last-within}
 use Rattle.reach.specs.Search.{outside-wall, reach-of, reach-in-row}
 use Rattle.lines.specs.Number.{glyph, decimal-in, decimal}
 use Rattle.file.specs.Cases.{codes, printed}
-use Rattle.search_lines.specs.Text.{numbers-text, line-text, reach-text, reach-texts, gap-text}
+use Rattle.search_lines.specs.Text.{numbers-text, line-text, largest-text, reach-text, reach-texts, gap-text}
 use Rattle.search_lines.specs.Cases.{wall, Line-cases}
 
 pub line-cases : Line-cases
-unfolding Line-cases wall settings settings-refusal settings-tests first outside drift-cost up reach-in-row reach-of outside-wall reach-ticks end-within first-within last-within gap-text reach-texts reach-text line-text numbers-text decimal decimal-in glyph printed codes
+unfolding Line-cases wall settings settings-refusal settings-tests first outside drift-cost up reach-in-row reach-of outside-wall reach-ticks end-within first-within last-within gap-text reach-texts reach-text largest-text line-text numbers-text decimal decimal-in glyph printed codes
 line-cases = (refl, refl, refl, refl, refl, refl)

@@ -8,7 +8,7 @@ use Rattle.reach.specs.declared.Reached.the-variants.{Within, Outside, Refused}
 use Rattle.lines.specs.Number.{decimal}
 use Rattle.lines.specs.Line.{space, line-end}
 
--- `b`, `r`, `faulty`, `largest`
+-- `b`, `r`, `faulty`, `largest`, `ticks`
 abbrev pub b-word : List ℕ
 b-word = 98 ∷ []
 
@@ -21,6 +21,9 @@ faulty-word = 102 ∷ 97 ∷ 117 ∷ 108 ∷ 116 ∷ 121 ∷ []
 abbrev pub largest-word : List ℕ
 largest-word = 108 ∷ 97 ∷ 114 ∷ 103 ∷ 101 ∷ 115 ∷ 116 ∷ []
 
+abbrev pub ticks-word : List ℕ
+ticks-word = 116 ∷ 105 ∷ 99 ∷ 107 ∷ 115 ∷ []
+
 -- a word, and numbers, each after a space
 unfoldable pub numbers-text : List ℕ → List ℕ
 numbers-text [] = []
@@ -28,6 +31,10 @@ numbers-text (n ∷ ns) = (space ∷ decimal n) ++ numbers-text ns
 
 unfoldable pub line-text : (word numbers : List ℕ) → List ℕ
 line-text word ns = (word ++ numbers-text ns) ++ (line-end ∷ [])
+
+-- the last line of a whole answer: a word stands behind the number, so that one that is cut short can be told
+unfoldable pub largest-text : (largest : ℕ) → List ℕ
+largest-text n = ((largest-word ++ (space ∷ decimal n)) ++ (space ∷ ticks-word)) ++ (line-end ∷ [])
 
 -- the reach of row f in row l, where that is a later row of the wall: its ticks and its hops
 unfoldable pub reach-text : (f l : ℕ) → Reached → List ℕ

@@ -12,7 +12,7 @@ ghost use lib.ListN.{length, take};
 ghost use Rattle.lines.specs.Wrote.{Wrote};
 ghost use Rattle.lines.specs.Row.{step-room};
 ghost use Rattle.reach.specs.Search.{reach-in-row};
-ghost use Rattle.search_lines.specs.Text.{line-text, reach-text, gap-text};
+ghost use Rattle.search_lines.specs.Text.{line-text, largest-text, reach-text, gap-text};
 
 // The word, then the values, each after a space.
 pub fn line(name: &[u8], values: &[u64], out: &mut [u8], at: usize) -> usize
@@ -26,6 +26,17 @@ pub fn line(name: &[u8], values: &[u64], out: &mut [u8], at: usize) -> usize
         end = spaced(values[i], out, end);
         i += 1;
     }
+    byte(b'\n', out, end)
+}
+
+// The largest reach over the wall, the last line of a whole answer.
+pub fn largest_line(largest: u64, out: &mut [u8], at: usize) -> usize
+    requires { ⌜ at + 64 ≤ length (now out) ⌝ }
+    ensures { λ r. ⌜ Wrote (now (out .entry)) at (largest-text largest) (now (out .exit)) r ⌝ }
+{
+    let named = word(b"largest", out, at);
+    let numbered = spaced(largest, out, named);
+    let end = word(b" ticks", out, numbered);
     byte(b'\n', out, end)
 }
 

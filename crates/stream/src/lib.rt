@@ -8,7 +8,7 @@ use window::Window;
 ghost use mathlib.Core.Path.{_≡_};
 ghost use mathlib.Core.Logic.{_⊎_};
 ghost use Prim.Native.Nat.{_≤_};
-ghost use lib.ListN.{length, take};
+ghost use lib.ListN.{length, take, drop};
 ghost use Rattle.stages.specs.Fit.{due-of};
 ghost use Rattle.lines.specs.Row.{step-room};
 ghost use Rattle.stages.specs.declared.Wall.the-variants.{Over};
@@ -101,10 +101,35 @@ fn hand_over(to: i32, text: &[u8], state: State, output: &[u8]) -> usize
     requires { ⌜ now text ≡ take (state .text) (now output) ⌝ }
     ensures { λ r. ⌜ (r ≡ 0) ⊎ (r ≡ length (now (text .entry))) ⌝ }
 {
-    if io::write_all(to, text) {
-        return 0;
+    let mut done = 0;
+    while done < text.len() {
+        let put = write_some(to, &text[done..], text, done);
+        if put == 0 {
+            return text.len();
+        }
+        done += put;
     }
-    text.len()
+    0
+}
+
+// The one write to the system, of the text from `done` on; answers how many bytes it took, none where it failed. One
+// that a signal interrupts is taken up again.
+fn write_some(to: i32, rest: &[u8], text: &[u8], done: usize) -> usize
+    requires { ⌜ now rest ≡ drop done (now text) ⌝ }
+    ensures { λ r. ⌜ r ≤ length (now (rest .entry)) ⌝ }
+{
+    let mut tries = window::SIGNALS_MOST;
+    while tries != 0 {
+        let put = libc::write(to, rest);
+        if 0 <= put {
+            return io::count(put, rest);
+        }
+        if os::errno() != libc::EINTR {
+            return 0;
+        }
+        tries -= 1;
+    }
+    0
 }
 
 // Hands over the last text. Only here a run is done, and the wall is over.
@@ -134,11 +159,10 @@ pub fn finish(to: i32, state: State, output: &[u8]) -> Outcome
 
 // Has the due part in the window, and room for its text. Text is handed over where a read is to come, so that no row
 // waits for input that it does not need, and where the room is too small.
-pub fn ready(from: i32, to: i32, state: State, input: &mut [u8], output: &[u8]) -> Turn
-    requires { ⌜ Between state (length (now input)) (length (now output)) × (6710 ≤ length (now input)) × (step-room ≤ length (now output)) ⌝ }
+pub fn ready(from: i32, to: i32, state: State, due: usize, input: &mut [u8], output: &[u8]) -> Turn
+    requires { ⌜ Between state (length (now input)) (length (now output)) × (6710 ≤ length (now input)) × (step-room ≤ length (now output)) × (due ≡ due-of (state .wall)) × (due ≤ 6710) ⌝ }
     ensures { λ r. ⌜ made-ready state (now (input .entry)) (length (now (output .entry))) r (now (input .exit)) ⌝ }
 {
-    let due = state.due();
     let window = state.window;
     let text = state.text;
     if !window.lacks(due) {

@@ -16,7 +16,7 @@ use Rattle.stages.specs.Fit.{place}
 use Rattle.steps.specs.Number.{settings-number}
 use Rattle.steps.specs.Shown.{row-shown, number-shown, offset-shown}
 use Rattle.steps.specs.Step.{stepped, away, settings-step, end-step, step-of}
-use Rattle.search_lines.specs.Text.{numbers-text, line-text, reach-text, reach-texts, gap-text}
+use Rattle.search_lines.specs.Text.{numbers-text, line-text, largest-text, reach-text, reach-texts, gap-text}
 use Rattle.file.specs.Cases.{codes, printed}
 use Rattle.telling.specs.Telling.{first-in, first-marked, says, survey-says, row-says, step-says, telling}
 use Rattle.telling.specs.Cases.{Marked-cases, at-row, row-0, Row-cases, End-cases}
@@ -30,5 +30,5 @@ unfolding Row-cases at-row row-0 place settings says row-says survey-says first-
 row-cases = (refl, refl, refl)
 
 pub end-cases : End-cases
-unfolding End-cases at-row place settings says telling step-says step-of settings-step end-step stepped away settings-number field-refusal field-tests first or-else row-shown number-shown offset-shown refused-line line-text numbers-text decimal decimal-in glyph printed codes
+unfolding End-cases at-row place settings says telling step-says step-of settings-step end-step stepped away settings-number field-refusal field-tests first or-else row-shown number-shown offset-shown refused-line largest-text decimal decimal-in glyph printed codes
 end-cases = (refl, refl, refl)

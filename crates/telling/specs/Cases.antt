@@ -35,6 +35,6 @@ Row-cases =
 -- the end of the file, with the largest; a byte after it; a file that ends before its settings
 unfoldable pub End-cases : Type 0
 End-cases =
-    (telling [] (End (at-row 1 257)) 256 row-0 [] ≡ says Over 256 (printed ("largest 256" ∷ [])))
+    (telling [] (End (at-row 1 257)) 256 row-0 [] ≡ says Over 256 (printed ("largest 256 ticks" ∷ [])))
     × (telling [] (End (at-row 1 257)) 256 row-0 (0 ∷ []) ≡ says Over 256 (printed ("refused 44 at 257" ∷ [])))
     × (telling [] New 0 [] [] ≡ says Over 0 (printed ("refused 43 at 0" ∷ [])))

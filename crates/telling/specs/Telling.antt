@@ -14,7 +14,7 @@ use Rattle.steps.specs.Shown.{number-shown, offset-shown}
 use Rattle.stages.specs.declared.Place.{Place}
 use Rattle.stages.specs.declared.Wall.{Wall}
 use Rattle.stages.specs.declared.Wall.the-variants.{New, Start, Row, End, Over}
-use Rattle.search_lines.specs.Text.{faulty-word, largest-word, line-text, gap-text}
+use Rattle.search_lines.specs.Text.{faulty-word, line-text, largest-text, gap-text}
 
 -- the lowest marked column below w, or w
 unfoldable pub first-in : (n c : ℕ) → (marks : List ℕ) → ℕ
@@ -51,7 +51,7 @@ unfoldable pub step-says : (asked : List ℕ) → Wall → (after : Wall) → (l
 step-says asked New after m ts bs = says after m []
 step-says asked (Start p) after m ts bs = says after m []
 step-says asked (Row p) after m ts bs = row-says asked p after m (marks-in (p .settings .width) bs) ts
-step-says asked (End p) after m ts bs = says after m (line-text largest-word (m ∷ []))
+step-says asked (End p) after m ts bs = says after m (largest-text m)
 step-says asked Over after m ts bs = says after m []
 
 unfoldable pub telling : (asked : List ℕ) → Wall → (largest : ℕ) → (row part : List ℕ) → Telling

@@ -2,6 +2,7 @@
 use columns::marked;
 use reach::survey::Surveyed;
 use reach::survey::survey;
+use search_lines::largest_line;
 use search_lines::line;
 use search_lines::row_lines;
 use stages::Place;
@@ -75,7 +76,7 @@ pub fn tell(
             )
         }
         Wall::End(_) => {
-            let end = line(b"largest", &[largest], out, at);
+            let end = largest_line(largest, out, at);
             Told {
                 wall: after,
                 largest,

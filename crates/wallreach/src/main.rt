@@ -1,20 +1,19 @@
-// Reads a wall file from standard input and writes its search range to standard output. The arguments are
-// the later rows that are asked for.
-use libc::STDERR_FILENO;
-use libc::STDIN_FILENO;
+// Reads a wall file and writes its search range to standard output, with the reach in the later rows that are asked for.
 use libc::STDOUT_FILENO;
 use stream::Ended;
 
 fn main() {
     let mut asked = [0u64; 16];
-    if !arguments::rows_asked(&mut asked) {
-        io::write_all(
-            STDERR_FILENO,
-            b"wallreach: the arguments are at most 16 rows, each from 1 to 1024\n",
-        );
+    let from = source::of_call(
+        arguments::read(1, 1024, &mut asked),
+        b"wallreach",
+        b"usage: wallreach [ROW]... [FILE], with at most 16 rows from 1 to 1024\n",
+        b"Reads a wall file without faults, or standard input, and writes how far one\nbroken tile can reach to standard output. The manual is docs/man/wallreach.1.\n",
+    );
+    if from < 0 {
         return;
     }
-    let found = search::run(STDIN_FILENO, STDOUT_FILENO, &asked);
+    let found = search::run(from, STDOUT_FILENO, &asked);
     let outcome = found.outcome;
     let ended = outcome.ended;
     match ended {

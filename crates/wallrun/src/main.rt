@@ -1,10 +1,19 @@
-// Reads a wall file from standard input and writes its rows, or its refusal, to standard output.
-use libc::STDIN_FILENO;
+// Reads a wall file and writes its rows, or its refusal, to standard output.
 use libc::STDOUT_FILENO;
 use stream::Ended;
 
 fn main() {
-    let outcome = print::run(STDIN_FILENO, STDOUT_FILENO);
+    let mut numbers = [0u64; 0];
+    let from = source::of_call(
+        arguments::read(0, 0, &mut numbers),
+        b"wallrun",
+        b"usage: wallrun [FILE]\n",
+        b"Reads a wall file, or standard input, and writes the pulse times and the seams\nof its rows to standard output. The manual is docs/man/wallrun.1.\n",
+    );
+    if from < 0 {
+        return;
+    }
+    let outcome = print::run(from, STDOUT_FILENO);
     let ended = outcome.ended;
     match ended {
         Ended::Done => {}

@@ -114,7 +114,7 @@ fn take_in(from: i32, window: Window, input: &mut [u8]) -> Reading
     ensures { λ r. ⌜ read-on window (now (input .entry)) r (now (input .exit)) ⌝ }
 {
     let end = window.end;
-    let got = libc::read(from, &mut input[end..]);
+    let got = read_some(from, &mut input[end..]);
     if got < 0 {
         return Reading::Failed;
     }
@@ -124,4 +124,23 @@ fn take_in(from: i32, window: Window, input: &mut [u8]) -> Reading
         end: end + n,
         ended: n == 0,
     })
+}
+
+// So many signals in a row, without a byte between them, count as a failure: a loop has to end.
+pub const SIGNALS_MOST: u64 = 1_000_000_000_000;
+
+// The one read of the system. One that a signal interrupts is taken up again.
+fn read_some(from: i32, room: &mut [u8]) -> isize {
+    let mut tries = SIGNALS_MOST;
+    while tries != 0 {
+        let got = libc::read(from, room);
+        if 0 <= got {
+            return got;
+        }
+        if os::errno() != libc::EINTR {
+            return got;
+        }
+        tries -= 1;
+    }
+    -1
 }

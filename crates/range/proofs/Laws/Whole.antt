@@ -1,7 +1,7 @@
 -- The rows of a wall without faults: none is turned away, and each is surveyed. Assumes nothing.
 use mathlib.Core.Path.{_≡_, refl, sym, _∙_, ap}
 use mathlib.Core.Bool.{false}
-use mathlib.Core.List.{List, [], _∷_, _++_, append-assoc}
+use mathlib.Core.List.{List, _∷_, _++_, append-assoc}
 use Prim.Native.Nat.{ℕ, zero, suc, _+_, _≤_, _<_, max}
 use lib.ListN.{take, drop}
 use native.Mathlib.Omega.{arith}
@@ -20,7 +20,7 @@ use Rattle.steps.specs.Number.{row-number}
 use Rattle.file.specs.Limits.{calls-in, Rows-keep, over, and-then}
 use Rattle.file.proofs.Laws.Limits.{keeps}
 use Rattle.file.proofs.Laws.Rows.{Grown, early-of, grows, call-accepted}
-use Rattle.search_lines.specs.Text.{largest-word, line-text, gap-text}
+use Rattle.search_lines.specs.Text.{largest-text, gap-text}
 use Rattle.telling.specs.Telling.{first-in, first-marked}
 use Rattle.range.specs.File.{with-lines, rows-told}
 use Rattle.range.specs.Promises.{gaps-text}
@@ -39,7 +39,7 @@ none-marked w ms h = let all : 0 + w ≡ w = omega arith in none-in w 0 ms (λ k
 
 module _ (s : Settings) (asked : List ℕ) where
   abbrev told : (l m : ℕ) → (rs : List (List ℕ)) → List ℕ
-  told l m rs = gaps-text s asked l rs ++ line-text largest-word (largest-of s l m rs ∷ [])
+  told l m rs = gaps-text s asked l rs ++ largest-text (largest-of s l m rs)
 
   told-more : (l m : ℕ) (ts : List ℕ) (rs : List (List ℕ)) →
       gap-text s (widest-gap (s .width) ts) l asked ++ told (suc l) (max m (last-reach s l ts)) rs ≡ told l m (ts ∷ rs)

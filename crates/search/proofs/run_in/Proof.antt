@@ -1,7 +1,7 @@
 -- `run_in` ends, as its contract says. The loop's invariant: a chain of turns leads from the start to the state. The measure is how many
 -- steps are left. Assumes nothing.
 use mathlib.Core.Path.{_≡_, refl, sym, _∙_}
-use Prim.Native.Nat.{_≤_, _<_}
+use Prim.Native.Nat.{_≤_}
 use native.Mathlib.Omega.{arith}
 use borrow.Author.Needs.{needs}
 use lib.ListN.{length, take}
@@ -39,11 +39,11 @@ stepped c = c .before .before .before .before .before .before .before
 
 made : (c : tie.After-made Inv-loop μ-loop) →
     let r = answered (c .before .before) in
-    Made-ready (head r .loop .state) (head r .loop .input) (length (head r .loop .output)) (c .made .given .0 .0) (r .ready .last .1 .1 .1 .0)
+    Made-ready (head r .loop .state) (head r .loop .input) (length (head r .loop .output)) (c .made .given .0 .0) (r .ready .last .1 .1 .1 .1 .0)
 made c = ready-on _ _ _ _ _ _ (c .made .given .1) (answered (c .before .before) .ready .ensures)
 
 some : (c : tie.After-ready Inv-loop μ-loop) → due-of (head c .loop .state .wall) ≡ 0 → ⊥
-some c e = c .before .before .before .if1 .taken (c .before .before .before .before .due .ensures .0 ∙ e)
+some c e = c .before .before .before .if1 .left (c .before .before .before .before .due .ensures .0 ∙ e)
 
 start-requires : tie.Need-start-requires Inv-loop μ-loop
 start-requires c κs = search needs
@@ -54,12 +54,38 @@ loop-holds c = (refl, refl, refl, refl, run.begun _ 0 _ _ _ _ (c .start .ensures
 due-requires : tie.Need-due-requires Inv-loop μ-loop
 due-requires c κs = search needs
 
+finish-requires : tie.Need-finish-requires Inv-loop μ-loop
+finish-requires c κs =
+    let at = c .before .before .before in
+    let i = at .loop .inv .4 .between in
+    (none-due (at .loop .state .wall) (i .stands) (sym (c .before .before .due .ensures .0) ∙ c .before .if1 .taken), i .text)
+
+same-length : tie.Need-same-length Inv-loop μ-loop
+same-length c = search needs
+
+same-length-2 : tie.Need-same-length-2 Inv-loop μ-loop
+same-length-2 c = search needs
+
+same-length-3 : tie.Need-same-length-3 Inv-loop μ-loop
+same-length-3 c = search needs
+
+same-length-4 : tie.Need-same-length-4 Inv-loop μ-loop
+same-length-4 c = search needs
+
+returns : tie.Need-returns Inv-loop μ-loop
+returns c =
+    let at = c .before .before .before .before in
+    let i = at .loop .inv .4 in
+    let over = none-due (at .loop .state .wall) (i .between .stands) (sym (c .before .before .before .due .ensures .0) ∙ c .before .before .if1 .taken) in
+    run.finishes _ 0 _ _ _ _ _ _ over i (c .finish .ensures)
+
 ready-requires : tie.Need-ready-requires Inv-loop μ-loop
 ready-requires c κs =
     let at = c .before .before .before .before in
+    let due = c .before .before .before .due in
     let s = start at in
     let input : 6710 ≤ length (at .loop .input) = omega (arith, at .loop .inv .0, s .pre .0) in
-    (at .loop .inv .4 .between, input, omega (arith, at .loop .inv .3, s .pre .3))
+    (at .loop .inv .4 .between, input, omega (arith, at .loop .inv .3, s .pre .3), due .ensures .0, due .ensures .1)
 
 enum-known-made : tie.Need-enum-known-made Inv-loop μ-loop
 enum-known-made c = search needs
@@ -90,29 +116,6 @@ loop-again c =
 enum-known-ended : tie.Need-enum-known-ended Inv-loop μ-loop
 enum-known-ended c = search needs
 
-same-length : tie.Need-same-length Inv-loop μ-loop
-same-length c = search needs
-
-same-length-2 : tie.Need-same-length-2 Inv-loop μ-loop
-same-length-2 c = search needs
-
-same-length-3 : tie.Need-same-length-3 Inv-loop μ-loop
-same-length-3 c = search needs
-
-same-length-4 : tie.Need-same-length-4 Inv-loop μ-loop
-same-length-4 c = search needs
-
-returns : tie.Need-returns Inv-loop μ-loop
-returns c =
-    let r = answered (c .before .before .before) in
-    run.stopped _ 0 _ _ _ _ _ _ (ready-off _ _ _ _ _ _ (c .before .ended .given .1) (r .ready .ensures)) (head r .loop .inv .4)
-
-finish-requires : tie.Need-finish-requires Inv-loop μ-loop
-finish-requires c κs =
-    let at = c .before .before .before in
-    let i = at .loop .inv .4 .between in
-    (none-due (at .loop .state .wall) (i .stands) (sym (c .before .before .due .ensures .0) ∙ c .before .if1 .left), i .text)
-
 same-length-5 : tie.Need-same-length-5 Inv-loop μ-loop
 same-length-5 c = search needs
 
@@ -127,10 +130,8 @@ same-length-8 c = search needs
 
 returns-2 : tie.Need-returns-2 Inv-loop μ-loop
 returns-2 c =
-    let at = c .before .before .before .before in
-    let i = at .loop .inv .4 in
-    let over = none-due (at .loop .state .wall) (i .between .stands) (sym (c .before .before .before .due .ensures .0) ∙ c .before .before .if1 .left) in
-    run.finishes _ 0 _ _ _ _ _ _ over i (c .finish .ensures)
+    let r = answered (c .before .before .before) in
+    run.stopped _ 0 _ _ _ _ _ _ (ready-off _ _ _ _ _ _ (c .before .ended .given .1) (r .ready .ensures)) (head r .loop .inv .4)
 
 pub run-in-spec : {M : Type 1} → statement M
 run-in-spec =
@@ -141,18 +142,18 @@ run-in-spec =
     start-requires
     loop-holds
     due-requires
+    finish-requires
+    same-length
+    same-length-2
+    same-length-3
+    same-length-4
+    returns
     ready-requires
     enum-known-made
     advance-requires
     loop-less
     loop-again
     enum-known-ended
-    same-length
-    same-length-2
-    same-length-3
-    same-length-4
-    returns
-    finish-requires
     same-length-5
     same-length-6
     same-length-7

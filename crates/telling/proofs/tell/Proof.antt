@@ -142,14 +142,8 @@ row-told-requires c κs =
 enum-told-3 : tie.Need-enum-told-3
 enum-told-3 c = search needs
 
-slice-aggregate-line : tie.Need-slice-aggregate-line
-slice-aggregate-line c = search needs
-
-slice-aggregate-line-2 : tie.Need-slice-aggregate-line-2
-slice-aggregate-line-2 c = search needs
-
-line-requires : tie.Need-line-requires
-line-requires c κs = search needs
+largest-line-requires : tie.Need-largest-line-requires
+largest-line-requires c κs = search needs
 
 enum-told-4 : tie.Need-enum-told-4
 enum-told-4 c = search needs
@@ -189,10 +183,10 @@ returns-5 : tie.Need-returns-5
 unfolding step-says
 returns-5 c =
     let l = c .before .before in
-    let w = l .before .before .before .before in
+    let w = l .before .before in
     let e = w .before .before in
     let a = start (e .before) .args in
-    said (a .taken .wall) (a .largest) (on e (w .enum-told3 .given .1)) (l .line .ensures .0)
+    said (a .taken .wall) (a .largest) (on e (w .enum-told3 .given .1)) (l .largest-line .ensures)
 
 returns-6 : tie.Need-returns-6
 unfolding step-says
@@ -219,9 +213,7 @@ tell-spec =
     part-row-told-end
     row-told-requires
     enum-told-3
-    slice-aggregate-line
-    slice-aggregate-line-2
-    line-requires
+    largest-line-requires
     enum-told-4
     returns-2
     returns-3

@@ -9,17 +9,17 @@ use borrow.Author.Needs.{needs}
 use Rattle.window.proofs.take_in.Statement.{statement}
 use Rattle.window.proofs.take_in.Tie as tie
 
-sub-read : tie.Need-sub-read
-sub-read c = search needs
+sub-read-some : tie.Need-sub-read-some
+sub-read-some c = search needs
 
-part-read-start : tie.Need-part-read-start
-part-read-start c = search needs
+part-read-some-start : tie.Need-part-read-some-start
+part-read-some-start c = search needs
 
-part-read-end : tie.Need-part-read-end
-part-read-end c = search needs
+part-read-some-end : tie.Need-part-read-some-end
+part-read-some-end c = search needs
 
-read-requires : tie.Need-read-requires
-read-requires c κs = search needs
+read-some-requires : tie.Need-read-some-requires
+read-some-requires c κs = search needs
 
 same-length : tie.Need-same-length
 same-length c = search needs
@@ -53,16 +53,16 @@ returns-2 c =
     let read = simp (length-take, length-drop) at (c .count .ensures .0 .0) in
     let ordered = c .before .before .before .before .before .before .before .before .before .pre .0 in
     let room : args .window .end ≤ length (args .input .now) = omega arith in
-    read-behind (args .window) _ _ (c .count .result) ordered (omega arith) (take-put (args .window .end) (length (args .input .now) - args .window .end) (args .input .now) (c .before .before .before .before .before .before .read .last .1 .0) room)
+    read-behind (args .window) _ _ (c .count .result) ordered (omega arith) (take-put (args .window .end) (length (args .input .now) - args .window .end) (args .input .now) (c .before .before .before .before .before .before .read-some .last .1 .0) room)
 
 pub take-in-spec : {M : Type 1} → statement M
 take-in-spec =
     tie.close
     (tie.spec
-    sub-read
-    part-read-start
-    part-read-end
-    read-requires
+    sub-read-some
+    part-read-some-start
+    part-read-some-end
+    read-some-requires
     same-length
     returns
     sub-count

@@ -1,6 +1,7 @@
 //! `walldiff PROGRAM COUNT FIRST_SEED` runs PROGRAM on the wall files of COUNT seeds and compares
-//! every byte of its standard output, how it ended and whether it complained with the reference. It
-//! stops at the first difference. `walldiff --reach PROGRAM COUNT FIRST_SEED` does so for `wallreach`.
+//! every byte of its standard output, how it ended and whether it complained with the reference. Some
+//! of the walls are handed over as a named file, some calls have a bad word. It stops at the first
+//! difference. `walldiff --reach PROGRAM COUNT FIRST_SEED` does so for `wallreach`.
 
 mod counts;
 mod reach;
@@ -13,20 +14,26 @@ use std::process::ExitCode;
 
 use run::{run, Ended};
 use wall_reference::generate;
+use wall_reference::generate::rng::Rng;
 
 /// From so many walls on, all that the seeds are made to reach must have been reached.
 const MANY: u64 = 10_000;
+
+/// Whether a file that is named can be read; where none is, there is standard input.
+fn there_is(name: Option<&str>) -> bool {
+    name.map_or(true, |name| std::path::Path::new(name).is_file())
+}
 
 /// Where the wall file of a difference is saved.
 const SAVED: &str = "differs.wall";
 
 /// A program of the reference that another is held against. It counts what is compared.
 trait Reference {
-    /// The arguments that go with the wall file of a seed.
-    fn arguments(&self, seed: u64) -> Vec<String>;
+    /// The words that go with the wall file of a seed, its name aside.
+    fn words(&self, seed: u64) -> Vec<String>;
 
-    /// What a program should do for them; counted.
-    fn due(&mut self, arguments: &[String], file: &[u8]) -> io::Result<Ended>;
+    /// What a program should do for these words, which end with the file's name where it has one; counted.
+    fn due(&mut self, words: &[String], file: &[u8]) -> io::Result<Ended>;
 
     /// Prints what was compared.
     fn print(&self);
@@ -66,6 +73,29 @@ fn held_against(reference: impl Reference, program: &str, count: &str, first: &s
     }
 }
 
+/// The file by which some walls are handed over; it is removed at the end.
+struct Named(String);
+
+impl Named {
+    fn new() -> Named {
+        let path = std::env::temp_dir().join(format!("walldiff-{}.wall", std::process::id()));
+        Named(path.to_string_lossy().into_owned())
+    }
+
+    /// Its name, with a wall in it.
+    fn holding(&self, file: &[u8]) -> io::Result<String> {
+        std::fs::write(&self.0, file)?;
+        Ok(self.0.clone())
+    }
+}
+
+impl Drop for Named {
+    fn drop(&mut self) {
+        // Where no wall was handed over so, there is none.
+        let _ = std::fs::remove_file(&self.0);
+    }
+}
+
 /// Compares all seeds and prints the counts; true where all is well.
 fn compare_all(
     mut reference: impl Reference,
@@ -73,13 +103,18 @@ fn compare_all(
     count: u64,
     first: u64,
 ) -> io::Result<bool> {
+    let named = Named::new();
     for seed in (0..count).map(|i| first.wrapping_add(i)) {
         let file = generate::file(seed);
-        let arguments = reference.arguments(seed);
-        let due = reference.due(&arguments, &file)?;
-        let given = run(program, &arguments, &file)?;
+        let mut words = reference.words(seed);
+        let by_name = Rng::new(seed).chance(25);
+        if by_name {
+            words.push(named.holding(&file)?);
+        }
+        let due = reference.due(&words, &file)?;
+        let given = run(program, &words, if by_name { &[] } else { &file })?;
         if given != due {
-            report::difference(seed, &arguments, &due, &given);
+            report::difference(seed, &words, &due, &given);
             std::fs::write(SAVED, &file)?;
             println!("the wall file is saved as {SAVED}");
             return Ok(false);

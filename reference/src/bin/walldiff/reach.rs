@@ -4,9 +4,10 @@ use std::io;
 
 use crate::counts::{line, Refusals};
 use crate::run::Ended;
-use crate::Reference;
+use crate::{there_is, Reference};
+use wall_reference::arguments::{read, Call};
 use wall_reference::generate::rng::Rng;
-use wall_reference::reach::{rows_asked, wallreach, Outcome, MOST_ASKED};
+use wall_reference::reach::{wallreach, Outcome, MOST_ASKED, ROWS};
 
 #[derive(Default)]
 pub struct Wallreach {
@@ -20,14 +21,14 @@ pub struct Wallreach {
     refusals: Refusals,
 }
 
-/// Arguments that are no row from 1 to 1,024.
+/// Words that are no row from 1 to 1,024, nor the name of a file that there is.
 const BAD: [&str; 8] = [
     "",
     "0",
     "1025",
     "-1",
-    "x",
-    "12x",
+    "no-such.wall",
+    "12no-such",
     "4294967297",
     "18446744073709551617",
 ];
@@ -35,33 +36,32 @@ const BAD: [&str; 8] = [
 impl Reference for Wallreach {
     /// A few rows, most often small ones; now and then as many as may be asked for, one more, or a bad one
     /// among them.
-    fn arguments(&self, seed: u64) -> Vec<String> {
+    fn words(&self, seed: u64) -> Vec<String> {
         let mut rng = Rng::new(!seed);
         let count = rng.pick(&[0, 1, 2, 3, 3, 4, 5, MOST_ASKED]);
         let most = rng.pick(&[6, 6, 40, 1_024]);
-        let mut arguments: Vec<String> = (0..count)
+        let mut words: Vec<String> = (0..count)
             .map(|_| rng.spread(1, most).to_string())
             .collect();
         match rng.below(50) {
             0 => {
                 let bad = rng.pick(&BAD).to_string();
-                arguments.insert(rng.index(count + 1), bad);
+                words.insert(rng.index(count + 1), bad);
             }
-            1 => arguments.resize(MOST_ASKED + 1, "1".into()),
-            2..=4 => arguments.push("1024".into()),
+            1 => words.resize(MOST_ASKED + 1, "1".into()),
+            2..=4 => words.push("1024".into()),
             _ => {}
         }
-        arguments
+        words
     }
 
-    fn due(&mut self, arguments: &[String], file: &[u8]) -> io::Result<Ended> {
-        let Some(asked) = rows_asked(arguments) else {
-            self.bad_arguments += 1;
-            return Ok(Ended {
-                printed: Vec::new(),
-                complained: true,
-                well: true,
-            });
+    fn due(&mut self, words: &[String], file: &[u8]) -> io::Result<Ended> {
+        let asked = match read(words, MOST_ASKED, ROWS) {
+            Call::Run { numbers, name } if there_is(name.as_deref()) => numbers,
+            _ => {
+                self.bad_arguments += 1;
+                return Ok(Ended::turned_away());
+            }
         };
         let mut printed = Vec::new();
         self.walls += 1;

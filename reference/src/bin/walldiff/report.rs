@@ -3,10 +3,10 @@
 use crate::run::Ended;
 
 /// Prints what differs between what was due and what was given, and the first line that does.
-pub fn difference(seed: u64, arguments: &[String], due: &Ended, given: &Ended) {
+pub fn difference(seed: u64, words: &[String], due: &Ended, given: &Ended) {
     println!("seed {seed}: the program differs");
-    if !arguments.is_empty() {
-        println!("arguments {arguments:?}");
+    if !words.is_empty() {
+        println!("arguments {words:?}");
     }
     if due.well != given.well {
         println!("the program ended by a signal or with a status that says a failure");

@@ -17,6 +17,15 @@ pub struct Ended {
 }
 
 impl Ended {
+    /// Turned the call away, with nothing on standard output.
+    pub fn turned_away() -> Ended {
+        Ended {
+            printed: Vec::new(),
+            complained: true,
+            well: true,
+        }
+    }
+
     /// Ended well, with this on standard output.
     pub fn well(printed: Vec<u8>) -> Ended {
         Ended {
@@ -29,9 +38,9 @@ impl Ended {
 
 /// Runs a program on a wall file. The input is written by a thread of its own; a program may end before
 /// it has read all.
-pub fn run(program: &str, arguments: &[String], file: &[u8]) -> io::Result<Ended> {
+pub fn run(program: &str, words: &[String], file: &[u8]) -> io::Result<Ended> {
     let mut child = Command::new(program)
-        .args(arguments)
+        .args(words)
         .stdin(Stdio::piped())
         .stdout(Stdio::piped())
         .stderr(Stdio::piped())

@@ -5,10 +5,12 @@ use std::io;
 
 use crate::counts::{line, Refusals};
 use crate::run::Ended;
-use crate::Reference;
+use crate::{there_is, Reference};
+use wall_reference::arguments::{read, Call};
 use wall_reference::file::{walk, ShownRow};
 use wall_reference::generate::ends::ENDS;
 use wall_reference::generate::kind::{kind, Kind};
+use wall_reference::generate::rng::Rng;
 use wall_reference::print::wallrun;
 use wall_reference::shape::is_marked;
 
@@ -25,15 +27,31 @@ pub struct Wallrun {
     closed: u64,
     open: u64,
     bytes: u64,
+    bad_arguments: u64,
     refusals: Refusals,
 }
 
+/// Words that are not the name of a file that there is.
+const BAD: [&str; 6] = ["", "0", "12", "-x", "--helpx", "no-such.wall"];
+
 impl Reference for Wallrun {
-    fn arguments(&self, _: u64) -> Vec<String> {
-        Vec::new()
+    /// None, but now and then a bad one.
+    fn words(&self, seed: u64) -> Vec<String> {
+        let mut rng = Rng::new(!seed);
+        match rng.below(50) {
+            0 => vec![rng.pick(&BAD).to_string()],
+            _ => Vec::new(),
+        }
     }
 
-    fn due(&mut self, _: &[String], file: &[u8]) -> io::Result<Ended> {
+    fn due(&mut self, words: &[String], file: &[u8]) -> io::Result<Ended> {
+        match read(words, 0, 0..=0) {
+            Call::Run { name, .. } if there_is(name.as_deref()) => {}
+            _ => {
+                self.bad_arguments += 1;
+                return Ok(Ended::turned_away());
+            }
+        }
         let mut printed = Vec::new();
         let refused = wallrun(file, &mut printed)?;
         self.walls += 1;
@@ -53,6 +71,7 @@ impl Reference for Wallrun {
         for ((name, _), count) in ENDS.iter().zip(self.at_ends) {
             line(&format!("    {name}"), count);
         }
+        line("bad arguments", self.bad_arguments);
         line("tiles", self.tiles);
         line("faulty tiles", self.faulty.values().sum());
         for (kind, count) in &self.faulty {
