@@ -1,25 +1,39 @@
 -- What each function answers and leaves, by the operation's answer: the number, and what is lent to be written, which a refusal
 -- leaves as it was. Assumes nothing.
-use mathlib.Core.Bool.{cond}
+use mathlib.Core.Bool.{Bool, cond}
 use mathlib.Core.List.{List, [], _∷_}
-use Prim.Native.Nat.{ℕ}
+use Prim.Native.Nat.{ℕ, _+_}
 use lib.Dec.{eqb}
 use lib.IntN.{ℤ, pos}
 use lib.Ieee.{Float}
+use lib.ListN.{length, getD}
 use Rattle.tile.specs.declared.Forwarded.{Forwarded}
 use Rattle.tile.specs.declared.Forwarded.the-variants as forwarded
 use Rattle.row.specs.declared.Planned.{Planned}
 use Rattle.row.specs.declared.Planned.the-variants as planned
+use Rattle.seam.specs.Seam.{number-of as seam-number}
 use Rattle.seam.specs.declared.Seam.{Seam}
 use Rattle.seam.specs.declared.Seam.the-variants as seam
-use Rattle.reach.specs.Answers.{reached-number, reached-outside}
+use Rattle.reach.specs.Answers.{reached-number, reached-outside, surveyed-number, surveyed-outside}
 use Rattle.reach.specs.declared.Gap.{Gap}
 use Rattle.reach.specs.declared.Gap.the-variants as gap
 use Rattle.reach.specs.declared.Reached.{Reached}
 use Rattle.reach.specs.declared.Reached.the-variants as reached
+use Rattle.reach.specs.declared.survey.Surveyed.{Surveyed}
+use Rattle.reach.specs.declared.survey.Surveyed.the-variants as surveyed
+use Rattle.places.specs.declared.seams.Columns.{Columns}
+use Rattle.places.specs.declared.seams.Columns.the-variants as columns
+use Rattle.places.specs.declared.seams.RowSeam.{RowSeam}
+use Rattle.places.specs.declared.seams.RowSeam.the-variants as row-seam
+use Rattle.places.specs.declared.marks.Mark.{Mark}
+use Rattle.places.specs.declared.marks.Mark.the-variants as mark
+use Rattle.places.specs.declared.links.Link.{Link}
+use Rattle.places.specs.declared.links.Link.the-variants as link
+use Rattle.stages.specs.declared.Wall.the-variants.{Over}
+use Rattle.steps.specs.Take.{taken, answer-of, row-after}
 use Rattle.steps.specs.declared.Answer.{Answer}
 use Rattle.steps.specs.declared.Answer.the-variants as take
-use Rattle.layout.specs.Words.{side-word, place-in, wall-words}
+use Rattle.layout.specs.Words.{side-word, place-in, wall-in, wall-words, refused-words, refused-number, takes}
 
 -- the number of what is unfit and has no number in 01
 abbrev pub unfit : ℕ
@@ -61,13 +75,89 @@ reach-left (reached.Within r) held = r .ticks ∷ r .first ∷ r .last ∷ []
 reach-left reached.Outside held = held
 reach-left (reached.Refused n) held = held
 
--- a step of a wall file: its number, the wall, which keeps its place where it is over, and the offset of a refusal
+-- a survey: the row that is due, B of the last row surveyed, and the largest reach; a row past the last but one is unfit
+unfoldable pub survey-number : Surveyed → ℕ
+survey-number a = cond (surveyed-outside a) unfit (surveyed-number a)
+
+unfoldable pub survey-left : Surveyed → (held : List ℕ) → List ℕ
+survey-left (surveyed.Row b m) held = (getD held 0 0 + 1) ∷ b ∷ m ∷ []
+survey-left surveyed.Outside held = held
+survey-left (surveyed.Refused n) held = held
+
+-- a seam's columns by its place
+unfoldable pub columns-number : Columns → ℕ
+columns-number (columns.Of l r) = 0
+columns-number columns.Outside = unfit
+columns-number (columns.Refused n) = n
+
+unfoldable pub columns-left : Columns → (held : List ℕ) → List ℕ
+columns-left (columns.Of l r) held = l ∷ r ∷ []
+columns-left columns.Outside held = held
+columns-left (columns.Refused n) held = held
+
+-- a row's seam by its place: its columns, and what it holds; 31 leaves the columns too
+unfoldable pub row-seam-number : RowSeam → ℕ
+row-seam-number (row-seam.Of l r s) = seam-number s
+row-seam-number row-seam.Outside = unfit
+row-seam-number (row-seam.Refused n) = n
+
+unfoldable pub row-seam-columns : RowSeam → (held : List ℕ) → List ℕ
+row-seam-columns (row-seam.Of l r s) held = cond (eqb (seam-number s) 0) (l ∷ r ∷ []) held
+row-seam-columns row-seam.Outside held = held
+row-seam-columns (row-seam.Refused n) held = held
+
+unfoldable pub row-seam-side : RowSeam → (held : ℕ) → ℕ
+row-seam-side (row-seam.Of l r s) held = side-left s held
+row-seam-side row-seam.Outside held = held
+row-seam-side (row-seam.Refused n) held = held
+
+unfoldable pub row-seam-halves : RowSeam → (held : List Float) → List Float
+row-seam-halves (row-seam.Of l r s) held = halves-left s held
+row-seam-halves row-seam.Outside held = held
+row-seam-halves (row-seam.Refused n) held = held
+
+-- a column's mark
+unfoldable pub mark-number : Mark → ℕ
+mark-number (mark.Is f) = 0
+mark-number mark.Outside = unfit
+mark-number (mark.Refused n) = n
+
+unfoldable pub mark-left : Mark → (held : Bool) → Bool
+mark-left (mark.Is f) held = f
+mark-left mark.Outside held = held
+mark-left (mark.Refused n) held = held
+
+-- a link's place
+unfoldable pub link-number : Link → ℕ
+link-number (link.At n) = 0
+link-number link.Outside = unfit
+link-number (link.Refused n) = n
+
+unfoldable pub link-left : Link → (held : ℕ) → ℕ
+link-left (link.At n) held = n
+link-left link.Outside held = held
+link-left (link.Refused n) held = held
+
+-- a step of a wall file. One that is turned away is turned away again; words that are no wall's, and a part longer than is due, are unfit
+unfoldable pub step-answer : (words part row : List ℕ) → (next : ℕ) → Answer
+step-answer ws bs ts n =
+    cond (eqb (refused-number ws) 0)
+    (cond (takes ws (length bs)) (answer-of (wall-in ws) bs ts n) take.Unfit)
+    (take.Taken (taken Over (refused-number ws) (getD ws 9 0)))
+
+-- the row that it writes
+unfoldable pub next-left : (words part row held : List ℕ) → List ℕ
+next-left ws bs ts held =
+    cond (eqb (refused-number ws) 0) (cond (takes ws (length bs)) (row-after (wall-in ws) bs ts held) held) held
+
+-- its number, the wall, which keeps its settings where it is over, and the offset of a refusal
 unfoldable pub step-number : Answer → ℕ
 step-number (take.Taken t) = t .number
 step-number take.Unfit = unfit
 
 unfoldable pub wall-left : Answer → (held : List ℕ) → List ℕ
-wall-left (take.Taken t) held = wall-words (t .wall) (place-in held)
+wall-left (take.Taken t) held =
+    cond (eqb (t .number) 0) (wall-words (t .wall) (place-in held)) (refused-words (t .number) (t .offset) (place-in held))
 wall-left take.Unfit held = held
 
 unfoldable pub offset-left : Answer → (held : ℕ) → ℕ

@@ -1,5 +1,6 @@
 -- `polzaintu_reach` meets its contract. Assumes nothing.
 use mathlib.Core.Path.{_≡_, sym, _∙_, ap}
+use lib.ListN.{getD}
 use Rattle.settings.specs.declared.Settings.{Settings}
 use Rattle.reach.specs.Search.{reach-of}
 use Rattle.reach.specs.Answers.{reached-number, reached-outside}
@@ -10,11 +11,24 @@ use Rattle.polzaintu.proofs.polzaintu_reach.Statement.{statement}
 use Rattle.polzaintu.proofs.polzaintu_reach.Tie as tie
 
 -- the operation's answer
-answer : (c : tie.After-reach) → let a = c .before .before .args in c .reach .result ≡ reach-of (settings-from 0 (a .settings .now)) (a .gap) (a .rows) (a .column)
-answer c = let a = c .before .before .args in c .reach .ensures ∙ ap (λ (s : Settings). reach-of s (a .gap) (a .rows) (a .column)) (c .before .settings-in .ensures)
+answer : (c : tie.After-reach) →
+    let a = c .before .before .before .before .before .args in
+    c .reach .result ≡ reach-of (settings-from 0 (a .settings .now)) (getD (a .broken .now) 0 0) (getD (a .broken .now) 1 0) (getD (a .broken .now) 2 0)
+answer c =
+    let a = c .before .before .before .before .before .args in
+    c .reach .ensures ∙ ap (λ (s : Settings). reach-of s (getD (a .broken .now) 0 0) (getD (a .broken .now) 1 0) (getD (a .broken .now) 2 0)) (c .before .before .before .before .settings-in .ensures)
 
 settings-in-requires : tie.Need-settings-in-requires
 settings-in-requires c κs = search needs
+
+element-copy-out-reach : tie.Need-element-copy-out-reach
+element-copy-out-reach c = search needs
+
+element-copy-out-reach-2 : tie.Need-element-copy-out-reach-2
+element-copy-out-reach-2 c = search needs
+
+element-copy-out-reach-3 : tie.Need-element-copy-out-reach-3
+element-copy-out-reach-3 c = search needs
 
 reach-requires : tie.Need-reach-requires
 reach-requires c κs = search needs
@@ -45,6 +59,9 @@ polzaintu-reach-spec =
     tie.close
     (tie.spec
     settings-in-requires
+    element-copy-out-reach
+    element-copy-out-reach-2
+    element-copy-out-reach-3
     reach-requires
     enum-known-within
     enum-told
