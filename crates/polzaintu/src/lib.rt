@@ -1,27 +1,11 @@
 // The operations for C and for Rust, as bindings/c/polzaintu.h declares them. A struct of the header is an
 // array of words here. The answer is the refusal's number, or 0; what is lent to be written then holds what
 // it held.
-use layout::place_in;
-use layout::refused_number;
-use layout::refused_words;
+use calls::UNFIT;
 use layout::settings_in;
 use layout::stamps_in;
-use layout::takes;
 use layout::wall_in;
-use layout::wall_words;
-use places::links::Link;
-use places::marks::Mark;
-use places::seams::Columns;
-use places::seams::RowSeam;
-use reach::Gap;
-use reach::Reached;
 use reach::survey::Surveyed;
-use row::Planned;
-use seam::Seam;
-use stages::Wall;
-use steps::Answer;
-use steps::Taken;
-use tile::Forwarded;
 ghost use mathlib.Core.Path.{_≡_};
 ghost use lib.ListN.{length, replicate, getD};
 ghost use Rattle.settings.specs.Settings.{settings-refusal};
@@ -37,10 +21,7 @@ ghost use Rattle.places.specs.Seams.{columns-of, seam-at};
 ghost use Rattle.places.specs.Marks.{mark-of};
 ghost use Rattle.places.specs.Links.{link-of};
 ghost use Rattle.layout.specs.Words.{settings-from, stamps-in, wall-in};
-ghost use Rattle.polzaintu.specs.Answers.{forwarded-left, ends-left, side-left, halves-left, gap-left, reach-number, reach-left, survey-number, survey-left, columns-number, columns-left, row-seam-number, row-seam-columns, row-seam-side, row-seam-halves, mark-number, mark-left, link-number, link-left, step-answer, next-left, step-number, wall-left, offset-left};
-
-// The number of what does not fit and has no number of its own.
-const UNFIT: u32 = 4_294_967_295;
+ghost use Rattle.calls.specs.Answers.{forwarded-left, ends-left, side-left, halves-left, gap-left, reach-number, reach-left, survey-number, survey-left, columns-number, columns-left, row-seam-number, row-seam-columns, row-seam-side, row-seam-halves, mark-number, mark-left, link-number, link-left, step-answer, next-left, step-number, wall-left, offset-left};
 
 #[no_mangle]
 pub extern "C" fn polzaintu_settings_refusal(settings: &[u64; 7]) -> u32
@@ -59,17 +40,10 @@ pub extern "C" fn polzaintu_tile(
     ensures number { λ r. ⌜ r ≡ Tile·number-of (forwarded (settings-from 0 (now (settings .entry))) (stamps-in (now (stamps .entry)))) ⌝ }
     ensures answer { λ r. ⌜ now (answer .exit) ≡ forwarded-left (forwarded (settings-from 0 (now (settings .entry))) (stamps-in (now (stamps .entry)))) (now (answer .entry)) ⌝ }
 {
-    match tile::forward(settings_in(settings), stamps_in(stamps)) {
-        Forwarded::Corrected { p, correction } => {
-            *answer = [p, correction, 1];
-            0
-        }
-        Forwarded::Uncorrected { p } => {
-            *answer = [p, 0, 0];
-            0
-        }
-        Forwarded::Refused(number) => number,
-    }
+    calls::forwarded_left(
+        tile::forward(settings_in(settings), stamps_in(stamps)),
+        answer,
+    )
 }
 
 #[no_mangle]
@@ -86,13 +60,10 @@ pub extern "C" fn polzaintu_row(
     ensures times { λ r. ⌜ now (times .exit) ≡ written (settings-from 0 (now (settings .entry))) (now (before .entry)) (call (now (marks .entry)) (now (drifts .entry)) (now (links .entry)) (length (now (times .entry)))) (now (times .entry)) ⌝ }
     ensures ends { λ r. ⌜ now (ends .exit) ≡ ends-left (planned (settings-from 0 (now (settings .entry))) (now (before .entry)) (call (now (marks .entry)) (now (drifts .entry)) (now (links .entry)) (length (now (times .entry))))) (now (ends .entry)) ⌝ }
 {
-    match row::plan(settings_in(settings), before, marks, drifts, links, times) {
-        Planned::Row { earliest, latest } => {
-            *ends = [earliest, latest];
-            0
-        }
-        Planned::Refused(number) => number,
-    }
+    calls::ends_left(
+        row::plan(settings_in(settings), before, marks, drifts, links, times),
+        ends,
+    )
 }
 
 #[no_mangle]
@@ -108,31 +79,11 @@ pub extern "C" fn polzaintu_seam(
     ensures side { λ r. ⌜ now (side .exit) ≡ side-left (seam-of left «left_faulty» right «right_faulty») (now (side .entry)) ⌝ }
     ensures halves { λ r. ⌜ now (halves .exit) ≡ halves-left (seam-of left «left_faulty» right «right_faulty») (now (halves .entry)) ⌝ }
 {
-    join_left(
+    calls::seam_left(
         seam::join(left, left_faulty, right, right_faulty),
         side,
         halves,
     )
-}
-
-// Writes the side of a seam, and its halves where it is closed.
-fn join_left(seam: Seam, side: &mut u32, halves: &mut [f64; 2]) -> u32
-    ensures number { λ r. ⌜ r ≡ Seam·number-of seam ⌝ }
-    ensures side { λ r. ⌜ now (side .exit) ≡ side-left seam (now (side .entry)) ⌝ }
-    ensures halves { λ r. ⌜ now (halves .exit) ≡ halves-left seam (now (halves .entry)) ⌝ }
-{
-    match seam {
-        Seam::Closed(made) => {
-            *side = 0;
-            *halves = [made.midpoint, made.half_gap];
-            0
-        }
-        Seam::Open(open) => {
-            *side = layout::side(open);
-            0
-        }
-        Seam::Refused(number) => number,
-    }
 }
 
 #[no_mangle]
@@ -140,13 +91,7 @@ pub extern "C" fn polzaintu_widest_gap(settings: &[u64; 7], row: &[u64], gap: &m
     ensures number { λ r. ⌜ r ≡ gap-number (gap-of (settings-from 0 (now (settings .entry))) (now (row .entry))) ⌝ }
     ensures gap { λ r. ⌜ now (gap .exit) ≡ gap-left (gap-of (settings-from 0 (now (settings .entry))) (now (row .entry))) (now (gap .entry)) ⌝ }
 {
-    match reach::widest_gap(settings_in(settings), row) {
-        Gap::Widest(widest) => {
-            *gap = widest;
-            0
-        }
-        Gap::Refused(number) => number,
-    }
+    calls::gap_left(reach::widest_gap(settings_in(settings), row), gap)
 }
 
 // `broken` is the gap, the rows and the column.
@@ -159,14 +104,8 @@ pub extern "C" fn polzaintu_reach(
     ensures number { λ r. ⌜ r ≡ reach-number (reach-of (settings-from 0 (now (settings .entry))) (getD (now (broken .entry)) 0 0) (getD (now (broken .entry)) 1 0) (getD (now (broken .entry)) 2 0)) ⌝ }
     ensures range { λ r. ⌜ now (range .exit) ≡ reach-left (reach-of (settings-from 0 (now (settings .entry))) (getD (now (broken .entry)) 0 0) (getD (now (broken .entry)) 1 0) (getD (now (broken .entry)) 2 0)) (now (range .entry)) ⌝ }
 {
-    match reach::reach(settings_in(settings), broken[0], broken[1], broken[2]) {
-        Reached::Within(within) => {
-            *range = [within.ticks, within.first, within.last];
-            0
-        }
-        Reached::Outside => UNFIT,
-        Reached::Refused(number) => number,
-    }
+    let reached = reach::reach(settings_in(settings), broken[0], broken[1], broken[2]);
+    calls::reach_left(reached, range)
 }
 
 // `broken` is the gap, the row, the later row and the column.
@@ -179,20 +118,14 @@ pub extern "C" fn polzaintu_reach_in_row(
     ensures number { λ r. ⌜ r ≡ reach-number (reach-in-row (settings-from 0 (now (settings .entry))) (getD (now (broken .entry)) 0 0) (getD (now (broken .entry)) 1 0) (getD (now (broken .entry)) 2 0) (getD (now (broken .entry)) 3 0)) ⌝ }
     ensures range { λ r. ⌜ now (range .exit) ≡ reach-left (reach-in-row (settings-from 0 (now (settings .entry))) (getD (now (broken .entry)) 0 0) (getD (now (broken .entry)) 1 0) (getD (now (broken .entry)) 2 0) (getD (now (broken .entry)) 3 0)) (now (range .entry)) ⌝ }
 {
-    match reach::reach_in_row(
+    let reached = reach::reach_in_row(
         settings_in(settings),
         broken[0],
         broken[1],
         broken[2],
         broken[3],
-    ) {
-        Reached::Within(within) => {
-            *range = [within.ticks, within.first, within.last];
-            0
-        }
-        Reached::Outside => UNFIT,
-        Reached::Refused(number) => number,
-    }
+    );
+    calls::reach_left(reached, range)
 }
 
 // `survey` is the row that is due, B of the last one surveyed and the largest reach.
@@ -225,14 +158,10 @@ pub extern "C" fn polzaintu_seam_columns(
     ensures number { λ r. ⌜ r ≡ columns-number (columns-of (settings-from 0 (now (settings .entry))) seam) ⌝ }
     ensures columns { λ r. ⌜ now (columns .exit) ≡ columns-left (columns-of (settings-from 0 (now (settings .entry))) seam) (now (columns .entry)) ⌝ }
 {
-    match places::seams::columns_of(settings_in(settings), seam) {
-        Columns::Of { left, right } => {
-            *columns = [left, right];
-            0
-        }
-        Columns::Outside => UNFIT,
-        Columns::Refused(number) => number,
-    }
+    calls::columns_left(
+        places::seams::columns_of(settings_in(settings), seam),
+        columns,
+    )
 }
 
 #[no_mangle]
@@ -250,21 +179,12 @@ pub extern "C" fn polzaintu_row_seam(
     ensures side { λ r. ⌜ now (side .exit) ≡ row-seam-side (seam-at (settings-from 0 (now (settings .entry))) (now (times .entry)) (now (marks .entry)) seam) (now (side .entry)) ⌝ }
     ensures halves { λ r. ⌜ now (halves .exit) ≡ row-seam-halves (seam-at (settings-from 0 (now (settings .entry))) (now (times .entry)) (now (marks .entry)) seam) (now (halves .entry)) ⌝ }
 {
-    match places::seams::row_seam(settings_in(settings), times, marks, seam) {
-        RowSeam::Of {
-            left,
-            right,
-            seam: held,
-        } => {
-            let number = join_left(held, side, halves);
-            if number == 0 {
-                *columns = [left, right];
-            }
-            number
-        }
-        RowSeam::Outside => UNFIT,
-        RowSeam::Refused(number) => number,
-    }
+    calls::row_seam_left(
+        places::seams::row_seam(settings_in(settings), times, marks, seam),
+        columns,
+        side,
+        halves,
+    )
 }
 
 #[no_mangle]
@@ -277,14 +197,10 @@ pub extern "C" fn polzaintu_mark(
     ensures number { λ r. ⌜ r ≡ mark-number (mark-of (settings-from 0 (now (settings .entry))) (now (marks .entry)) column) ⌝ }
     ensures faulty { λ r. ⌜ now (faulty .exit) ≡ mark-left (mark-of (settings-from 0 (now (settings .entry))) (now (marks .entry)) column) (now (faulty .entry)) ⌝ }
 {
-    match places::marks::mark_of(settings_in(settings), marks, column) {
-        Mark::Is(is) => {
-            *faulty = is;
-            0
-        }
-        Mark::Outside => UNFIT,
-        Mark::Refused(number) => number,
-    }
+    calls::mark_left(
+        places::marks::mark_of(settings_in(settings), marks, column),
+        faulty,
+    )
 }
 
 #[no_mangle]
@@ -297,14 +213,10 @@ pub extern "C" fn polzaintu_link_place(
     ensures number { λ r. ⌜ r ≡ link-number (link-of (settings-from 0 (now (settings .entry))) tile sender) ⌝ }
     ensures place { λ r. ⌜ now (place .exit) ≡ link-left (link-of (settings-from 0 (now (settings .entry))) tile sender) (now (place .entry)) ⌝ }
 {
-    match places::links::place_of(settings_in(settings), tile, sender) {
-        Link::At(at) => {
-            *place = at;
-            0
-        }
-        Link::Outside => UNFIT,
-        Link::Refused(number) => number,
-    }
+    calls::link_left(
+        places::links::place_of(settings_in(settings), tile, sender),
+        place,
+    )
 }
 
 #[no_mangle]
@@ -343,41 +255,7 @@ pub extern "C" fn polzaintu_wall_step(
     ensures next { λ r. ⌜ now (next .exit) ≡ next-left (now (wall .entry)) (now (part .entry)) (now (row .entry)) (now (next .entry)) ⌝ }
     ensures offset { λ r. ⌜ now (offset .exit) ≡ offset-left (step-answer (now (wall .entry)) (now (part .entry)) (now (row .entry)) (length (now (next .entry)))) (now (offset .entry)) ⌝ }
 {
-    match stepped(wall, part, row, next) {
-        Answer::Taken(taken) => {
-            let place = place_in(wall);
-            let number = taken.number;
-            if number != 0 {
-                let at = taken.offset;
-                *wall = refused_words(number, at, place);
-                *offset = at;
-                return number;
-            }
-            let after = taken.wall;
-            *wall = wall_words(after, place);
-            0
-        }
-        Answer::Unfit => UNFIT,
-    }
-}
-
-// A file that is turned away is turned away again, whatever it is given.
-fn stepped(wall: &[u64; 10], part: &[u8], row: &[u64], next: &mut [u64]) -> Answer
-    ensures answer { λ r. ⌜ r ≡ step-answer (now (wall .entry)) (now (part .entry)) (now (row .entry)) (length (now (next .entry))) ⌝ }
-    ensures next { λ r. ⌜ now (next .exit) ≡ next-left (now (wall .entry)) (now (part .entry)) (now (row .entry)) (now (next .entry)) ⌝ }
-{
-    let number = refused_number(wall);
-    if number != 0 {
-        return Answer::Taken(Taken {
-            wall: Wall::Over,
-            number,
-            offset: wall[9],
-        });
-    }
-    if takes(wall, part.len()) {
-        return steps::take(wall_in(wall), part, row, next);
-    }
-    Answer::Unfit
+    calls::step(wall, part, row, next, offset)
 }
 
 // The version as one number.

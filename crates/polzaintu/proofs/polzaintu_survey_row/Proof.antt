@@ -8,7 +8,7 @@ use Rattle.reach.specs.Survey.{surveyed-of}
 use Rattle.reach.specs.Answers.{surveyed-number, surveyed-outside}
 use Rattle.reach.proofs.Laws.Survey.{surveyed-early}
 use Rattle.layout.specs.Words.{settings-from}
-use Rattle.polzaintu.specs.Answers.{survey-number, survey-left}
+use Rattle.calls.specs.Answers.{survey-number, survey-left}
 use borrow.Author.Needs.{needs}
 use Rattle.polzaintu.proofs.polzaintu_survey_row.Statement.{statement}
 use Rattle.polzaintu.proofs.polzaintu_survey_row.Tie as tie

@@ -1,10 +1,10 @@
--- `join_left` meets its contract. Assumes nothing.
+-- `seam_left` meets its contract. Assumes nothing.
 use mathlib.Core.Path.{sym, _∙_}
 use Rattle.seam.specs.Seam.{number-of}
-use Rattle.polzaintu.specs.Answers.{side-left, halves-left}
+use Rattle.calls.specs.Answers.{side-left, halves-left}
 use borrow.Author.Needs.{needs}
-use Rattle.polzaintu.proofs.join_left.Statement.{statement}
-use Rattle.polzaintu.proofs.join_left.Tie as tie
+use Rattle.calls.proofs.seam_left.Statement.{statement}
+use Rattle.calls.proofs.seam_left.Tie as tie
 
 enum-known-seam : tie.Need-enum-known-seam
 enum-known-seam c = search needs
@@ -30,8 +30,8 @@ returns-3 : tie.Need-returns-3
 unfolding number-of side-left halves-left
 returns-3 c = let e = c .before .seam3 .given .1 in (sym (rw e), (sym (rw e), sym (rw e)))
 
-pub join-left-spec : {M : Type 1} → statement M
-join-left-spec =
+pub seam-left-spec : {M : Type 1} → statement M
+seam-left-spec =
     tie.close
     (tie.spec
     enum-known-seam

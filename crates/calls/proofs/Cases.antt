@@ -35,8 +35,8 @@ use Rattle.steps.specs.Shown.{row-shown, number-shown, offset-shown}
 use Rattle.steps.specs.Step.{stepped, away, settings-step, start-step, end-step, step-of as wall-step}
 use Rattle.steps.specs.Take.{taken, taken-of, both-fit, answer-of}
 use Rattle.layout.specs.Words.{settings-from, at-most, stamp-in, stamps-in, side-word, place-in, staged, wall-in, place-words, wall-words, refused-words, refused-number, takes}
-use Rattle.polzaintu.specs.Answers.{forwarded-left, ends-left, side-left, halves-left, gap-left, reach-number, reach-left, survey-number, survey-left, columns-number, columns-left, row-seam-number, row-seam-columns, row-seam-side, row-seam-halves, mark-number, mark-left, link-number, link-left, step-answer, step-number, wall-left, offset-left}
-use Rattle.polzaintu.specs.Cases.{wall-settings, Tile, Tile-cases, row-0, Planned, Row-cases, held-halves, Seam, Seam-cases, Widest, Widest-cases, Range, Range-cases, Range-in-row, Range-in-row-cases, Survey, Survey-cases, Seam-columns, Seam-columns-cases, row-1, Row-seam, Row-seam-cases, Marked, Mark-cases, Link-at, Link-cases, Step, settings-field, wall-at, Step-cases, Again-cases}
+use Rattle.calls.specs.Answers.{forwarded-left, ends-left, side-left, halves-left, gap-left, reach-number, reach-left, survey-number, survey-left, columns-number, columns-left, row-seam-number, row-seam-columns, row-seam-side, row-seam-halves, mark-number, mark-left, link-number, link-left, step-answer, step-number, wall-left, offset-left}
+use Rattle.calls.specs.Cases.{wall-settings, Tile, Tile-cases, row-0, Planned, Row-cases, held-halves, Seam, Seam-cases, Widest, Widest-cases, Range, Range-cases, Range-in-row, Range-in-row-cases, Survey, Survey-cases, Seam-columns, Seam-columns-cases, row-1, Row-seam, Row-seam-cases, Marked, Mark-cases, Link-at, Link-cases, Step, settings-field, wall-at, Step-cases, Again-cases}
 
 pub tile-cases : Tile-cases
 unfolding Tile-cases Tile wall-settings settings-from settings settings-refusal settings-tests first outside drift-cost up stamps-in stamp-in at-most tile-number forwarded-left forwarded tile-refusal tile-tests stamp-tests any-below late-at late-from silences count-silent answered answer own-stamp neighbour-stamps neighbour-places stamp-at stamp-from silent-at reading-at natural P correction heard-correction D least-to larger-at larger smaller earliest latest earlier later step-of step

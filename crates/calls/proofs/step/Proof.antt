@@ -1,12 +1,12 @@
--- `polzaintu_wall_step` meets its contract. Assumes nothing.
+-- `step` meets its contract. Assumes nothing.
 use mathlib.Core.Path.{_≡_, sym, _∙_, ap}
 use borrow.Author.Tests.{eq-eqb, ne-eqb}
 use Rattle.stages.specs.declared.Place.{Place}
 use Rattle.layout.specs.Words.{refused-words, wall-words}
-use Rattle.polzaintu.specs.Answers.{step-number, wall-left, offset-left}
+use Rattle.calls.specs.Answers.{step-number, wall-left, offset-left}
 use borrow.Author.Needs.{needs}
-use Rattle.polzaintu.proofs.polzaintu_wall_step.Statement.{statement}
-use Rattle.polzaintu.proofs.polzaintu_wall_step.Tie as tie
+use Rattle.calls.proofs.step.Statement.{statement}
+use Rattle.calls.proofs.step.Tie as tie
 
 stepped-requires : tie.Need-stepped-requires
 stepped-requires c κs = search needs
@@ -78,8 +78,8 @@ returns-3 c =
     let e = sym (s .stepped .ensures .0) ∙ c .enum-told .given .1 in
     (sym (rw e), (sym (rw e), (s .stepped .ensures .1, sym (rw e))))
 
-pub polzaintu-wall-step-spec : {M : Type 1} → statement M
-polzaintu-wall-step-spec =
+pub step-spec : {M : Type 1} → statement M
+step-spec =
     tie.close
     (tie.spec
     stepped-requires

@@ -19,7 +19,7 @@ use Rattle.places.specs.Seams.{columns-of, seam-at}
 use Rattle.places.specs.Marks.{mark-of}
 use Rattle.places.specs.Links.{link-of}
 use Rattle.layout.specs.Words.{settings-from, stamps-in}
-use Rattle.polzaintu.specs.Answers.{forwarded-left, ends-left, side-left, halves-left, gap-left, reach-number, reach-left, survey-number, survey-left, columns-number, columns-left, row-seam-number, row-seam-columns, row-seam-side, row-seam-halves, mark-number, mark-left, link-number, link-left, step-answer, step-number, wall-left, offset-left}
+use Rattle.calls.specs.Answers.{forwarded-left, ends-left, side-left, halves-left, gap-left, reach-number, reach-left, survey-number, survey-left, columns-number, columns-left, row-seam-number, row-seam-columns, row-seam-side, row-seam-halves, mark-number, mark-left, link-number, link-left, step-answer, step-number, wall-left, offset-left}
 
 -- W 6, R 1, d 100, u 10, A 400, r 0, h 12
 unfoldable pub wall-settings : Settings
