@@ -26,17 +26,9 @@ use Rattle.reach.specs.Answers.{gap-number, reached-number, reached-outside, su
 use Rattle.places.specs.Seams.{seam-left, seam-right, columns-of, other-lengths, between, seam-at}
 use Rattle.places.specs.Marks.{mark-of}
 use Rattle.places.specs.Links.{hears, heard-at, link-of}
-use Rattle.fields.specs.Bytes.{big-endian}
-use Rattle.fields.specs.Field.{field-tests, field-refusal, body, or-else}
-use Rattle.contents.specs.Contents.{settings-in, times-in, late-start, marks-field, row-size}
-use Rattle.stages.specs.Fit.{place, due-size, due-of, passes, place-fits, wall-fits}
-use Rattle.steps.specs.Number.{settings-number, start-number}
-use Rattle.steps.specs.Shown.{row-shown, number-shown, offset-shown}
-use Rattle.steps.specs.Step.{stepped, away, settings-step, start-step, end-step, step-of as wall-step}
-use Rattle.steps.specs.Take.{taken, taken-of, both-fit, answer-of}
-use Rattle.layout.specs.Words.{settings-from, at-most, stamp-in, stamps-in, side-word, place-in, staged, wall-in, place-words, wall-words, refused-words, refused-number, takes}
-use Rattle.calls.specs.Answers.{forwarded-left, ends-left, side-left, halves-left, gap-left, reach-number, reach-left, survey-number, survey-left, columns-number, columns-left, row-seam-number, row-seam-columns, row-seam-side, row-seam-halves, mark-number, mark-left, link-number, link-left, step-answer, step-number, wall-left, offset-left}
-use Rattle.calls.specs.Cases.{wall-settings, Tile, Tile-cases, row-0, Planned, Row-cases, held-halves, Seam, Seam-cases, Widest, Widest-cases, Range, Range-cases, Range-in-row, Range-in-row-cases, Survey, Survey-cases, Seam-columns, Seam-columns-cases, row-1, Row-seam, Row-seam-cases, Marked, Mark-cases, Link-at, Link-cases, Step, settings-field, wall-at, Step-cases, Again-cases}
+use Rattle.layout.specs.Words.{settings-from, at-most, stamp-in, stamps-in, side-word}
+use Rattle.calls.specs.Answers.{forwarded-left, ends-left, side-left, halves-left, gap-left, reach-number, reach-left, survey-number, survey-left, columns-number, columns-left, row-seam-number, row-seam-columns, row-seam-side, row-seam-halves, mark-number, mark-left, link-number, link-left}
+use Rattle.calls.specs.Cases.{wall-settings, Tile, Tile-cases, row-0, Planned, Row-cases, held-halves, Seam, Seam-cases, Widest, Widest-cases, Range, Range-cases, Range-in-row, Range-in-row-cases, Survey, Survey-cases, Seam-columns, Seam-columns-cases, row-1, Row-seam, Row-seam-cases, Marked, Mark-cases, Link-at, Link-cases}
 
 pub tile-cases : Tile-cases
 unfolding Tile-cases Tile wall-settings settings-from settings settings-refusal settings-tests first outside drift-cost up stamps-in stamp-in at-most tile-number forwarded-left forwarded tile-refusal tile-tests stamp-tests any-below late-at late-from silences count-silent answered answer own-stamp neighbour-stamps neighbour-places stamp-at stamp-from silent-at reading-at natural P correction heard-correction D least-to larger-at larger smaller earliest latest earlier later step-of step
@@ -81,11 +73,3 @@ mark-cases = ((refl, refl), (refl, refl), (refl, refl))
 pub link-cases : Link-cases
 unfolding Link-cases Link-at wall-settings settings-from settings settings-refusal settings-tests first outside drift-cost up link-number link-left link-of heard-at hears any-of predecessors columns-from is-predecessor are-neighbours link-place links-before place-of
 link-cases = ((refl, refl), (refl, refl), (refl, refl))
-
-pub step-cases : Step-cases
-unfolding Step-cases Step wall-at settings-field step-answer refused-number takes refused-words due-of due-size row-size marks-field mark-bytes wall-in staged place-in place-words wall-words settings-from settings place step-number wall-left offset-left answer-of both-fit taken-of taken wall-fits place-fits passes settings-refusal settings-tests first outside drift-cost up wall-step settings-step start-step end-step stepped away settings-number start-number field-refusal field-tests or-else body big-endian settings-in times-in late-start table-from any-below row-shown number-shown offset-shown
-step-cases = ((refl, refl, refl), (refl, refl, refl), (refl, refl, refl), (refl, refl, refl), (refl, refl, refl), (refl, refl, refl), (refl, refl, refl))
-
-pub again-cases : Again-cases
-unfolding Again-cases Step wall-at settings-field step-answer refused-number takes refused-words due-of due-size row-size marks-field mark-bytes wall-in staged place-in place-words wall-words settings-from settings place step-number wall-left offset-left answer-of both-fit taken-of taken wall-fits place-fits passes settings-refusal settings-tests first outside drift-cost up wall-step settings-step start-step end-step stepped away settings-number start-number field-refusal field-tests or-else body big-endian settings-in times-in late-start table-from any-below row-shown number-shown offset-shown
-again-cases = ((refl, refl, refl), (refl, refl, refl), (refl, refl, refl), (refl, refl, refl), (refl, refl, refl), (refl, refl, refl), (refl, refl, refl), (refl, refl, refl))

@@ -6,7 +6,7 @@ use Prim.Native.Nat.{ℕ, _+_}
 use lib.Dec.{eqb}
 use lib.IntN.{ℤ, pos}
 use lib.Ieee.{Float}
-use lib.ListN.{length, getD}
+use lib.ListN.{getD}
 use Rattle.tile.specs.declared.Forwarded.{Forwarded}
 use Rattle.tile.specs.declared.Forwarded.the-variants as forwarded
 use Rattle.row.specs.declared.Planned.{Planned}
@@ -29,15 +29,7 @@ use Rattle.places.specs.declared.marks.Mark.{Mark}
 use Rattle.places.specs.declared.marks.Mark.the-variants as mark
 use Rattle.places.specs.declared.links.Link.{Link}
 use Rattle.places.specs.declared.links.Link.the-variants as link
-use Rattle.stages.specs.declared.Wall.the-variants.{Over}
-use Rattle.steps.specs.Take.{taken, answer-of, row-after}
-use Rattle.steps.specs.declared.Answer.{Answer}
-use Rattle.steps.specs.declared.Answer.the-variants as take
-use Rattle.layout.specs.Words.{side-word, place-in, wall-in, wall-words, refused-words, refused-number, takes}
-
--- the number of what is unfit and has no number in 01
-abbrev pub unfit : ℕ
-unfit = 4294967295
+use Rattle.layout.specs.Words.{unfit, side-word}
 
 -- a tile's P, correction, and whether it has one
 unfoldable pub forwarded-left : Forwarded → (held : List ℤ) → List ℤ
@@ -137,29 +129,3 @@ unfoldable pub link-left : Link → (held : ℕ) → ℕ
 link-left (link.At n) held = n
 link-left link.Outside held = held
 link-left (link.Refused n) held = held
-
--- a step of a wall file. One that is turned away is turned away again; words that are no wall's, and a part longer than is due, are unfit
-unfoldable pub step-answer : (words part row : List ℕ) → (next : ℕ) → Answer
-step-answer ws bs ts n =
-    cond (eqb (refused-number ws) 0)
-    (cond (takes ws (length bs)) (answer-of (wall-in ws) bs ts n) take.Unfit)
-    (take.Taken (taken Over (refused-number ws) (getD ws 9 0)))
-
--- the row that it writes
-unfoldable pub next-left : (words part row held : List ℕ) → List ℕ
-next-left ws bs ts held =
-    cond (eqb (refused-number ws) 0) (cond (takes ws (length bs)) (row-after (wall-in ws) bs ts held) held) held
-
--- its number, the wall, which keeps its settings where it is over, and the offset of a refusal
-unfoldable pub step-number : Answer → ℕ
-step-number (take.Taken t) = t .number
-step-number take.Unfit = unfit
-
-unfoldable pub wall-left : Answer → (held : List ℕ) → List ℕ
-wall-left (take.Taken t) held =
-    cond (eqb (t .number) 0) (wall-words (t .wall) (place-in held)) (refused-words (t .number) (t .offset) (place-in held))
-wall-left take.Unfit held = held
-
-unfoldable pub offset-left : Answer → (held : ℕ) → ℕ
-offset-left (take.Taken t) held = cond (eqb (t .number) 0) held (t .offset)
-offset-left take.Unfit held = held

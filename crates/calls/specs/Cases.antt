@@ -19,7 +19,7 @@ use Rattle.places.specs.Seams.{columns-of, seam-at}
 use Rattle.places.specs.Marks.{mark-of}
 use Rattle.places.specs.Links.{link-of}
 use Rattle.layout.specs.Words.{settings-from, stamps-in}
-use Rattle.calls.specs.Answers.{forwarded-left, ends-left, side-left, halves-left, gap-left, reach-number, reach-left, survey-number, survey-left, columns-number, columns-left, row-seam-number, row-seam-columns, row-seam-side, row-seam-halves, mark-number, mark-left, link-number, link-left, step-answer, step-number, wall-left, offset-left}
+use Rattle.calls.specs.Answers.{forwarded-left, ends-left, side-left, halves-left, gap-left, reach-number, reach-left, survey-number, survey-left, columns-number, columns-left, row-seam-number, row-seam-columns, row-seam-side, row-seam-halves, mark-number, mark-left, link-number, link-left}
 
 -- W 6, R 1, d 100, u 10, A 400, r 0, h 12
 unfoldable pub wall-settings : Settings
@@ -163,42 +163,3 @@ Link-at c k n at = (link-number (link-of wall-settings c k) ≡ n) × (link-left
 
 unfoldable pub Link-cases : Type 0
 Link-cases = Link-at 2 3 0 9 × Link-at 5 5 0 19 × Link-at 2 4 4294967295 7
-
--- polzaintu_wall_step: the number, the wall and the offset
-unfoldable pub Step : (wall part row : List ℕ) → (next number : ℕ) → (wall-after : List ℕ) → (offset : ℕ) → Type 0
-Step ws part row next n after at =
-    let a = step-answer ws part row next in
-    (step-number a ≡ n) × (wall-left a ws ≡ after) × (offset-left a 7 ≡ at)
-
--- the settings of the printed wall, as tag 1 has them, and the wall's words at a stage
-unfoldable pub settings-field : List ℕ
-settings-field =
-    1 ∷ 0 ∷ 24 ∷ 0 ∷ 6 ∷ 0 ∷ 1 ∷ 0 ∷ 0 ∷ 0 ∷ 100 ∷ 0 ∷ 0 ∷ 0 ∷ 10 ∷ 0 ∷ 0 ∷ 1 ∷ 144 ∷ 0 ∷ 0 ∷ 0 ∷ 0 ∷ 0 ∷ 0 ∷ 0 ∷ 12 ∷ []
-
-unfoldable pub wall-at : (stage row offset : ℕ) → List ℕ
-wall-at n l at = n ∷ 6 ∷ 1 ∷ 100 ∷ 10 ∷ 400 ∷ 0 ∷ 12 ∷ l ∷ at ∷ []
-
--- settings taken; a file that ends too soon; row 0 taken; another tag than due, 27 bytes in; a row to be written of another length; the
--- end of the file; a byte after it
-unfoldable pub Step-cases : Type 0
-Step-cases =
-    Step (replicate 10 0) settings-field [] 0 0 (wall-at 1 0 27) 7
-    × Step (replicate 10 0) (1 ∷ 0 ∷ 24 ∷ []) [] 0 43 (5 ∷ 0 ∷ 0 ∷ 0 ∷ 0 ∷ 0 ∷ 0 ∷ 0 ∷ 43 ∷ 0 ∷ []) 0
-    × Step (wall-at 1 0 27) (2 ∷ 0 ∷ 48 ∷ replicate 48 0) (replicate 6 0) 6 0 (wall-at 2 0 78) 7
-    × Step (wall-at 1 0 27) (3 ∷ 0 ∷ 48 ∷ []) (replicate 6 0) 6 41 (wall-at 5 41 27) 27
-    × Step (wall-at 1 0 27) (2 ∷ 0 ∷ 48 ∷ replicate 48 0) (replicate 6 0) 5 4294967295 (wall-at 1 0 27) 7
-    × Step (wall-at 3 1 257) [] (replicate 6 0) 6 0 (wall-at 4 1 257) 7
-    × Step (wall-at 3 1 257) (0 ∷ []) (replicate 6 0) 6 44 (wall-at 5 44 257) 257
-
--- an ended file once more, and with a byte; a file that is turned away once more, whatever is lent; a part longer than is due, at its
--- start and at its end; a refusal without a number, and a stage past all
-unfoldable pub Again-cases : Type 0
-Again-cases =
-    Step (wall-at 4 1 257) [] [] 0 0 (wall-at 4 1 257) 7
-    × Step (wall-at 4 1 257) (0 ∷ []) [] 0 4294967295 (wall-at 4 1 257) 7
-    × Step (wall-at 5 41 27) [] (replicate 6 0) 6 41 (wall-at 5 41 27) 27
-    × Step (wall-at 5 41 27) (2 ∷ 0 ∷ []) [] 1 41 (wall-at 5 41 27) 27
-    × Step (replicate 10 0) (0 ∷ settings-field) [] 0 4294967295 (replicate 10 0) 7
-    × Step (wall-at 3 1 257) (0 ∷ 0 ∷ []) (replicate 6 0) 6 4294967295 (wall-at 3 1 257) 7
-    × Step (wall-at 5 0 27) [] [] 0 4294967295 (wall-at 5 0 27) 7
-    × Step (wall-at 6 41 27) [] [] 0 4294967295 (wall-at 6 41 27) 7

@@ -1,11 +1,6 @@
 // What a call writes to what it is lent, by the operation's answer, and the number that it answers. A refusal
-// leaves everything as it was. `step` is the step of a wall file by the words of layout.
-use layout::place_in;
-use layout::refused_number;
-use layout::refused_words;
-use layout::takes;
-use layout::wall_in;
-use layout::wall_words;
+// leaves everything as it was.
+use layout::UNFIT;
 use places::links::Link;
 use places::marks::Mark;
 use places::seams::Columns;
@@ -14,20 +9,13 @@ use reach::Gap;
 use reach::Reached;
 use row::Planned;
 use seam::Seam;
-use stages::Wall;
-use steps::Answer;
-use steps::Taken;
 use tile::Forwarded;
 ghost use mathlib.Core.Path.{_≡_};
-ghost use lib.ListN.{length};
 ghost use Rattle.tile.specs.Tile.{number-of as Tile·number-of};
 ghost use Rattle.row.specs.Row.{number-of as Row·number-of};
 ghost use Rattle.seam.specs.Seam.{number-of as Seam·number-of};
 ghost use Rattle.reach.specs.Answers.{gap-number};
-ghost use Rattle.calls.specs.Answers.{forwarded-left, ends-left, side-left, halves-left, gap-left, reach-number, reach-left, columns-number, columns-left, row-seam-number, row-seam-columns, row-seam-side, row-seam-halves, mark-number, mark-left, link-number, link-left, step-answer, next-left, step-number, wall-left, offset-left};
-
-// The number of what does not fit and has no number of its own.
-pub const UNFIT: u32 = 4_294_967_295;
+ghost use Rattle.calls.specs.Answers.{forwarded-left, ends-left, side-left, halves-left, gap-left, reach-number, reach-left, columns-number, columns-left, row-seam-number, row-seam-columns, row-seam-side, row-seam-halves, mark-number, mark-left, link-number, link-left};
 
 // P, the correction, and whether there is one.
 pub fn forwarded_left(forwarded: Forwarded, answer: &mut [i64; 3]) -> u32
@@ -178,54 +166,4 @@ pub fn link_left(found: Link, place: &mut u64) -> u32
         Link::Outside => UNFIT,
         Link::Refused(number) => number,
     }
-}
-
-// Takes the due part of a wall file.
-pub fn step(
-    wall: &mut [u64; 10],
-    part: &[u8],
-    row: &[u64],
-    next: &mut [u64],
-    offset: &mut u64,
-) -> u32
-    ensures number { λ r. ⌜ r ≡ step-number (step-answer (now (wall .entry)) (now (part .entry)) (now (row .entry)) (length (now (next .entry)))) ⌝ }
-    ensures wall { λ r. ⌜ now (wall .exit) ≡ wall-left (step-answer (now (wall .entry)) (now (part .entry)) (now (row .entry)) (length (now (next .entry)))) (now (wall .entry)) ⌝ }
-    ensures next { λ r. ⌜ now (next .exit) ≡ next-left (now (wall .entry)) (now (part .entry)) (now (row .entry)) (now (next .entry)) ⌝ }
-    ensures offset { λ r. ⌜ now (offset .exit) ≡ offset-left (step-answer (now (wall .entry)) (now (part .entry)) (now (row .entry)) (length (now (next .entry)))) (now (offset .entry)) ⌝ }
-{
-    match stepped(wall, part, row, next) {
-        Answer::Taken(taken) => {
-            let place = place_in(wall);
-            let number = taken.number;
-            if number != 0 {
-                let at = taken.offset;
-                *wall = refused_words(number, at, place);
-                *offset = at;
-                return number;
-            }
-            let after = taken.wall;
-            *wall = wall_words(after, place);
-            0
-        }
-        Answer::Unfit => UNFIT,
-    }
-}
-
-// A file that is turned away is turned away again, whatever it is given.
-fn stepped(wall: &[u64; 10], part: &[u8], row: &[u64], next: &mut [u64]) -> Answer
-    ensures answer { λ r. ⌜ r ≡ step-answer (now (wall .entry)) (now (part .entry)) (now (row .entry)) (length (now (next .entry))) ⌝ }
-    ensures next { λ r. ⌜ now (next .exit) ≡ next-left (now (wall .entry)) (now (part .entry)) (now (row .entry)) (now (next .entry)) ⌝ }
-{
-    let number = refused_number(wall);
-    if number != 0 {
-        return Answer::Taken(Taken {
-            wall: Wall::Over,
-            number,
-            offset: wall[9],
-        });
-    }
-    if takes(wall, part.len()) {
-        return steps::take(wall_in(wall), part, row, next);
-    }
-    Answer::Unfit
 }

@@ -55,7 +55,7 @@ wall-place = record { settings = wall-settings; row = 18; offset = 19 }
 unfoldable pub staged-words : (stage : ℕ) → List ℕ
 staged-words n = n ∷ 11 ∷ 12 ∷ 13 ∷ 14 ∷ 15 ∷ 16 ∷ 17 ∷ 18 ∷ 19 ∷ []
 
--- POLZAINTU_SETTINGS_DUE, _START_DUE, _ROW_DUE, _END_DUE and POLZAINTU_OVER, as they are read and as they are written
+-- POLZAINTU_SETTINGS_DUE, _START_DUE, _ROW_DUE, _END_DUE and POLZAINTU_ENDED, as they are read and as they are written
 unfoldable pub Wall-read-cases : Type 0
 Wall-read-cases =
     (wall-in (staged-words 0) ≡ New)

@@ -15,6 +15,10 @@ use Rattle.stages.specs.declared.Place.{Place}
 use Rattle.stages.specs.declared.Wall.{Wall}
 use Rattle.stages.specs.declared.Wall.the-variants.{New, Start, Row, End, Over}
 
+-- the number of what is unfit and has no number of its own
+abbrev pub unfit : ℕ
+unfit = 4294967295
+
 -- from the word k on: W, R, d, u, A, r, h
 unfoldable pub settings-from : (k : ℕ) → (words : List ℕ) → Settings
 settings-from k ws =

@@ -8,6 +8,9 @@ ghost use mathlib.Core.Path.{_≡_};
 ghost use Prim.Native.Nat.{_≤_};
 ghost use Rattle.layout.specs.Words.{settings-from, at-most, stamp-in, stamps-in, side-word, place-in, staged, wall-in, place-words, wall-words, refused-words, refused-number, takes};
 
+// The number of what does not fit and has no number of its own.
+pub const UNFIT: u32 = 4_294_967_295;
+
 pub fn settings_in(words: &[u64; 7]) -> Settings
     ensures { λ r. ⌜ r ≡ settings-from 0 (now (words .entry)) ⌝ }
 {

@@ -1,7 +1,7 @@
 // The operations for C and for Rust, as bindings/c/polzaintu.h declares them. A struct of the header is an
 // array of words here. The answer is the refusal's number, or 0; what is lent to be written then holds what
 // it held.
-use calls::UNFIT;
+use layout::UNFIT;
 use layout::settings_in;
 use layout::stamps_in;
 use layout::wall_in;
@@ -21,7 +21,8 @@ ghost use Rattle.places.specs.Seams.{columns-of, seam-at};
 ghost use Rattle.places.specs.Marks.{mark-of};
 ghost use Rattle.places.specs.Links.{link-of};
 ghost use Rattle.layout.specs.Words.{settings-from, stamps-in, wall-in};
-ghost use Rattle.calls.specs.Answers.{forwarded-left, ends-left, side-left, halves-left, gap-left, reach-number, reach-left, survey-number, survey-left, columns-number, columns-left, row-seam-number, row-seam-columns, row-seam-side, row-seam-halves, mark-number, mark-left, link-number, link-left, step-answer, next-left, step-number, wall-left, offset-left};
+ghost use Rattle.calls.specs.Answers.{forwarded-left, ends-left, side-left, halves-left, gap-left, reach-number, reach-left, survey-number, survey-left, columns-number, columns-left, row-seam-number, row-seam-columns, row-seam-side, row-seam-halves, mark-number, mark-left, link-number, link-left};
+ghost use Rattle.wall_calls.specs.Answers.{step-answer, next-left, step-number, wall-left, offset-left};
 
 #[no_mangle]
 pub extern "C" fn polzaintu_settings_refusal(settings: &[u64; 7]) -> u32
@@ -255,7 +256,7 @@ pub extern "C" fn polzaintu_wall_step(
     ensures next { λ r. ⌜ now (next .exit) ≡ next-left (now (wall .entry)) (now (part .entry)) (now (row .entry)) (now (next .entry)) ⌝ }
     ensures offset { λ r. ⌜ now (offset .exit) ≡ offset-left (step-answer (now (wall .entry)) (now (part .entry)) (now (row .entry)) (length (now (next .entry)))) (now (offset .entry)) ⌝ }
 {
-    calls::step(wall, part, row, next, offset)
+    wall_calls::step(wall, part, row, next, offset)
 }
 
 // The version as one number.

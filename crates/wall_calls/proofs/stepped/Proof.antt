@@ -5,10 +5,10 @@ use borrow.Author.Tests.{eq-eqb, ne-eqb}
 use Rattle.stages.specs.declared.Wall.{Wall}
 use Rattle.steps.specs.Take.{taken, answer-of, row-after}
 use Rattle.layout.specs.Words.{refused-number}
-use Rattle.calls.specs.Answers.{step-answer, next-left}
+use Rattle.wall_calls.specs.Answers.{step-answer, next-left}
 use borrow.Author.Needs.{needs}
-use Rattle.calls.proofs.stepped.Statement.{statement}
-use Rattle.calls.proofs.stepped.Tie as tie
+use Rattle.wall_calls.proofs.stepped.Statement.{statement}
+use Rattle.wall_calls.proofs.stepped.Tie as tie
 
 refused-number-requires : tie.Need-refused-number-requires
 refused-number-requires c κs = search needs

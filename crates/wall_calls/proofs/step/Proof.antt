@@ -3,10 +3,10 @@ use mathlib.Core.Path.{_≡_, sym, _∙_, ap}
 use borrow.Author.Tests.{eq-eqb, ne-eqb}
 use Rattle.stages.specs.declared.Place.{Place}
 use Rattle.layout.specs.Words.{refused-words, wall-words}
-use Rattle.calls.specs.Answers.{step-number, wall-left, offset-left}
+use Rattle.wall_calls.specs.Answers.{step-number, wall-left, offset-left}
 use borrow.Author.Needs.{needs}
-use Rattle.calls.proofs.step.Statement.{statement}
-use Rattle.calls.proofs.step.Tie as tie
+use Rattle.wall_calls.proofs.step.Statement.{statement}
+use Rattle.wall_calls.proofs.step.Tie as tie
 
 stepped-requires : tie.Need-stepped-requires
 stepped-requires c κs = search needs
