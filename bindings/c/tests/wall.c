@@ -87,6 +87,21 @@ static void faulty_tile(void) {
     row_is(walk.next, (uint64_t[]){2000, 2000, 2000, 2036, 2000, 2000});
 }
 
+/* The search range of the small wall, from rows 0 and 1; row 0 has the larger reach. */
+static void surveyed_wall(void) {
+    struct wall_file file = small_wall();
+    struct walk walk = begin();
+    polzaintu_survey survey = {0, 0, 0};
+    go(&walk, &file, 2);
+    while (walk.wall.stage == POLZAINTU_ROW_DUE) {
+        CHECK(survey.row == walk.wall.row);
+        CHECK(polzaintu_survey_row(&walk.wall.settings, walk.row, 6, &survey) == 0);
+        go(&walk, &file, 1);
+    }
+    CHECK(survey.row == walk.wall.settings.rows);
+    CHECK(survey.gap == 36 && survey.largest == 2 * 80 + 8 * 12 + 1);
+}
+
 /* A step that is lent so much of the file fits no wall, and changes nothing. */
 static void unfit_part(struct walk walk, size_t part_len, size_t row_len, size_t next_len) {
     struct wall_file file = small_wall();
@@ -193,6 +208,7 @@ void wall_tests(void) {
     accepted_wall();
     printed_seams();
     faulty_tile();
+    surveyed_wall();
     most_bytes();
     unfit_rows();
     unfit_walls();
