@@ -369,9 +369,10 @@ POLZAINTU_ANSWER size_t polzaintu_wall_width(const polzaintu_wall *wall);
  * changes.
  *
  * Answers 1 to 9, 22 to 26, or 41 to 45 where the file is turned away. Then *wall is at stage 5,
- * *offset is the byte offset that wallrun prints, and next holds what it held. 23 comes only where
- * `row` is not what the last step wrote. Of each field the header is looked at first, then whether
- * the body is there, then what it holds; the contents of tags 3 and 4 are looked at together.
+ * *offset is the byte offset that wallrun prints, and next holds what it held. 23 can't come where
+ * *wall and `row` are as the steps of one file left them. Of each field the header is looked at
+ * first, then whether the body is there, then what it holds; the contents of tags 3 and 4 are
+ * looked at together.
  *
  * At stage 5 it answers the same number again, whatever it is lent, and writes the same offset;
  * nothing else changes.

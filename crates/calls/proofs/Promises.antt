@@ -1,7 +1,7 @@
 -- The proofs of what specs/Promises.antt states. Assumes nothing.
-use mathlib.Core.Path.{_≡_, refl, sym, _∙_, ap}
+use mathlib.Core.Path.{_≡_, refl}
 use mathlib.Core.List.{List, [], _∷_}
-use Prim.Native.Nat.{ℕ, zero, suc, _+_, _≤_, _<_, max}
+use Prim.Native.Nat.{ℕ, suc, _+_, _≤_, _<_, max}
 use lib.ListN.{length, getD}
 use native.Mathlib.Omega.{arith}
 use Rattle.settings.specs.Settings.{settings-refusal}

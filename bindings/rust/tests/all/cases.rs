@@ -76,3 +76,27 @@ fn example_wall() {
         printed.lines().collect::<Vec<_>>()
     );
 }
+
+/// Each line that `wallreach` is expected to print of its wall.
+#[test]
+fn search_range() {
+    let program = repository().join("crates/wallreach");
+    let file = fs::read(program.join("stdin")).unwrap();
+    let range = Reader::new(&file[..]).search_range().unwrap();
+    let printed = read(program.join("stdout"));
+    let mut gaps = Vec::new();
+    for line in printed.lines() {
+        let words: Vec<_> = line.split(' ').collect();
+        let number = |place: usize| words[place].parse::<u64>().unwrap();
+        match words[0] {
+            "b" => gaps.push(number(2)),
+            "r" => {
+                let reach = range.reach((number(1), 0), number(2)).unwrap();
+                assert_eq!(reach.ticks, number(3), "{line}");
+            }
+            "largest" => assert_eq!(range.largest(), number(1)),
+            _ => panic!("{line}"),
+        }
+    }
+    assert_eq!(range.gaps(), gaps);
+}

@@ -1,6 +1,5 @@
 -- `refused_number` meets its contract. Assumes nothing.
 use borrow.Author.Tests.{eq-eqb, ne-eqb, le-leb, lt-leb}
-use native.Mathlib.Omega.{arith}
 use Rattle.layout.specs.Words.{refused-number}
 use borrow.Author.Needs.{needs}
 use Rattle.layout.proofs.refused_number.Statement.{statement}

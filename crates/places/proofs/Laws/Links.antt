@@ -1,10 +1,10 @@
 -- A link's place: the senders of a tile one by one, and any other. Assumes nothing.
-use mathlib.Core.Path.{_≡_, refl, sym, _∙_, ap}
+use mathlib.Core.Path.{_≡_}
 use mathlib.Core.Bool.{true, false}
 use Prim.Native.Nat.{ℕ, _+_, _≤_, _<_}
 use native.Mathlib.Omega.{arith}
 use borrow.Author.Tests.{eq-eqb, ne-eqb}
-use Rattle.columns.specs.Columns.{predecessors, links-before, link-place, any-of}
+use Rattle.columns.specs.Columns.{links-before, link-place, any-of}
 use Rattle.columns.specs.Window.{first-sender, four-senders, window}
 use Rattle.columns.proofs.Laws.Columns.{predecessors-window, first-link-place, second-link-place, third-link-place, fourth-link-place}
 use Rattle.places.specs.Links.{hears, heard-at}

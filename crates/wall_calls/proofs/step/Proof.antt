@@ -1,7 +1,6 @@
 -- `step` meets its contract. Assumes nothing.
-use mathlib.Core.Path.{_≡_, sym, _∙_, ap}
+use mathlib.Core.Path.{sym, _∙_, ap}
 use borrow.Author.Tests.{eq-eqb, ne-eqb}
-use Rattle.stages.specs.declared.Place.{Place}
 use Rattle.layout.specs.Words.{refused-words, wall-words}
 use Rattle.wall_calls.specs.Answers.{step-number, wall-left, offset-left}
 use borrow.Author.Needs.{needs}

@@ -1,5 +1,4 @@
 -- `between` meets its contract. Assumes nothing.
-use mathlib.Core.Path.{_≡_, sym, _∙_}
 use Prim.Native.Nat.{ℕ, _/_, _<_}
 use lib.ListN.{length}
 use native.Mathlib.Omega.{arith}

@@ -1,6 +1,5 @@
 -- `columns_of` meets its contract. Assumes nothing.
 use mathlib.Core.Path.{_≡_, sym, _∙_}
-use native.Mathlib.Omega.{arith}
 use borrow.Author.Tests.{eq-eqb, ne-eqb, lt-ltb, le-ltb}
 use Rattle.settings.specs.Settings.{settings-refusal}
 use Rattle.settings.proofs.Laws.Settings.{limits}

@@ -1,5 +1,4 @@
 -- `other_lengths` meets its contract. Assumes nothing.
-use mathlib.Core.Path.{refl}
 use borrow.Author.Tests.{eq-eqb, ne-eqb}
 use Rattle.columns.specs.Marks.{mark-bytes}
 use Rattle.places.specs.Seams.{other-lengths}

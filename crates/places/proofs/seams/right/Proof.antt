@@ -1,5 +1,5 @@
 -- `right` meets its contract. Assumes nothing.
-use mathlib.Core.Path.{sym, _∙_}
+use mathlib.Core.Path.{sym}
 use native.Mathlib.Omega.{arith}
 use Rattle.places.proofs.Laws.Seams.{right-first, right-inner, right-last}
 use borrow.Author.Needs.{needs}
