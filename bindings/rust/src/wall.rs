@@ -10,7 +10,7 @@ mod shown;
 
 pub use crate::seam::RowSeam;
 pub use reader::{Error, Reader};
-pub use search::{SearchError, SearchRange};
+pub use search::{SearchError, SearchRange, Tile};
 pub use shown::Row;
 
 use crate::{ffi, Refusal, Settings};

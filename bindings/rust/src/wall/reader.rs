@@ -100,12 +100,13 @@ impl<R: Read> Reader<R> {
     /// `wallreach` prints it. A wall with a faulty tile has no search range.
     ///
     /// ```
-    /// # use polzaintu::wall::{Reader, SearchError};
+    /// use polzaintu::wall::{Reader, Tile};
+    /// # use polzaintu::wall::SearchError;
     /// # let path = concat!(env!("CARGO_MANIFEST_DIR"), "/../../crates/wallrun/stdin");
     /// # let file = std::fs::read(path).unwrap();
     /// let range = Reader::new(&file[..]).search_range()?;
     /// assert_eq!((range.largest(), range.gaps()), (256, &[80][..]));
-    /// assert_eq!(range.reach((0, 3), 1).unwrap().columns, 2..=5);
+    /// assert_eq!(range.reach(Tile { row: 0, column: 3 }, 1).unwrap().columns, 2..=5);
     /// # Ok::<(), SearchError>(())
     /// ```
     pub fn search_range(mut self) -> Result<SearchRange, SearchError> {

@@ -26,11 +26,11 @@ impl SearchRange {
         &self.gaps
     }
 
-    /// The reach of a tile of the column in the row, in a later row of the wall. `None` where there
-    /// is no such tile or no such later row.
+    /// The reach of a broken tile in a later row of the wall. `None` where there is no such tile or
+    /// no such later row.
     #[must_use]
-    pub fn reach(&self, tile: (u64, usize), later: u64) -> Option<Reach> {
-        let (row, column) = tile;
+    pub fn reach(&self, broken: Tile, later: u64) -> Option<Reach> {
+        let Tile { row, column } = broken;
         let gap = *self.gaps.get(usize::try_from(row).ok()?)?;
         let broken = BrokenInRow {
             gap,
@@ -42,16 +42,20 @@ impl SearchRange {
     }
 }
 
+/// A tile of a wall.
+#[derive(Clone, Copy, Debug, PartialEq, Eq, Hash)]
+pub struct Tile {
+    /// Its row, 0 to R.
+    pub row: u64,
+    /// Its column, 0 to W - 1.
+    pub column: usize,
+}
+
 /// Why a wall file has no search range.
 #[derive(Debug)]
 pub enum SearchError {
     /// The wall has a faulty tile; this is the first in the file.
-    Faulty {
-        /// Its row.
-        row: u64,
-        /// Its column.
-        column: usize,
-    },
+    Faulty(Tile),
     /// The file is turned away, or could not be read.
     File(Error),
 }
@@ -61,7 +65,7 @@ pub enum SearchError {
 pub(super) struct Search {
     survey: Option<Survey>,
     gaps: Vec<u64>,
-    faulty: Option<(u64, usize)>,
+    faulty: Option<Tile>,
 }
 
 impl Search {
@@ -74,7 +78,10 @@ impl Search {
             return;
         }
         if let Some(column) = row.first_faulty() {
-            self.faulty = Some((row.number(), column));
+            self.faulty = Some(Tile {
+                row: row.number(),
+                column,
+            });
             return;
         }
         let gap = survey.row(row.times()).expect("a file's rows are W long");
@@ -83,8 +90,7 @@ impl Search {
 
     /// The first faulty tile.
     pub(super) fn faulty(&self) -> Option<SearchError> {
-        self.faulty
-            .map(|(row, column)| SearchError::Faulty { row, column })
+        self.faulty.map(SearchError::Faulty)
     }
 
     /// The range, once the file has ended.
@@ -106,7 +112,7 @@ impl From<Error> for SearchError {
 impl fmt::Display for SearchError {
     fn fmt(&self, f: &mut fmt::Formatter<'_>) -> fmt::Result {
         match self {
-            SearchError::Faulty { row, column } => write!(f, "faulty {row} {column}"),
+            SearchError::Faulty(Tile { row, column }) => write!(f, "faulty {row} {column}"),
             SearchError::File(error) => error.fmt(f),
         }
     }
@@ -115,7 +121,7 @@ impl fmt::Display for SearchError {
 impl error::Error for SearchError {
     fn source(&self) -> Option<&(dyn error::Error + 'static)> {
         match self {
-            SearchError::Faulty { .. } => None,
+            SearchError::Faulty(_) => None,
             SearchError::File(error) => error.source(),
         }
     }

@@ -2,7 +2,7 @@
 //! print.
 
 use polzaintu::seam::{Seam, Side};
-use polzaintu::wall::{Error, Reader, Row, RowSeam};
+use polzaintu::wall::{Error, Reader, Row, RowSeam, Tile};
 use std::fs;
 use std::path::{Path, PathBuf};
 
@@ -91,7 +91,11 @@ fn search_range() {
         match words[0] {
             "b" => gaps.push(number(2)),
             "r" => {
-                let reach = range.reach((number(1), 0), number(2)).unwrap();
+                let broken = Tile {
+                    row: number(1),
+                    column: 0,
+                };
+                let reach = range.reach(broken, number(2)).unwrap();
                 assert_eq!(reach.ticks, number(3), "{line}");
             }
             "largest" => assert_eq!(range.largest(), number(1)),

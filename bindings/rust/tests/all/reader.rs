@@ -3,7 +3,7 @@
 use crate::common::{settings, WallFile, LAST_TAG_4, TAG_2};
 use polzaintu::reach::{widest_gap, Survey};
 use polzaintu::row::SILENT;
-use polzaintu::wall::{Error, Reader, Row, SearchError};
+use polzaintu::wall::{Error, Reader, Row, SearchError, Tile};
 use std::io::{self, ErrorKind, Read};
 
 /// Gives a byte at a time and is interrupted before each. Where `fails`, it ends with an error.
@@ -131,6 +131,10 @@ fn settings_of_a_cut_file() {
     assert!(reader.next().is_none());
 }
 
+fn tile(row: u64, column: usize) -> Tile {
+    Tile { row, column }
+}
+
 /// The search range is that of rows 0 to R - 1, whatever is read before it is asked for.
 #[test]
 fn search_ranges() {
@@ -152,10 +156,10 @@ fn search_ranges() {
             rows.map(|row| widest_gap(&settings, row).unwrap())
         );
         assert_eq!(Some(range.largest()), survey.largest());
-        assert_eq!(range.reach((0, 3), 2).unwrap().ticks, 2 * 80 + 96 + 1);
-        assert_eq!(range.reach((0, 3), 3), None);
-        assert_eq!(range.reach((2, 3), 3), None);
-        assert_eq!(range.reach((0, 6), 1), None);
+        assert_eq!(range.reach(tile(0, 3), 2).unwrap().ticks, 2 * 80 + 96 + 1);
+        assert_eq!(range.reach(tile(0, 3), 3), None);
+        assert_eq!(range.reach(tile(2, 3), 3), None);
+        assert_eq!(range.reach(tile(0, 6), 1), None);
     }
 }
 
@@ -166,7 +170,7 @@ fn search_ranges_of_other_files() {
         file.rows[place].fault(3, SILENT);
         let bytes = file.bytes();
         match Reader::new(&bytes[..]).search_range() {
-            Err(SearchError::Faulty { row: r, column: 3 }) => assert_eq!(r, row),
+            Err(SearchError::Faulty(found)) => assert_eq!(found, tile(row, 3)),
             other => panic!("{other:?}"),
         }
     }
