@@ -379,8 +379,8 @@ POLZAINTU_ANSWER size_t polzaintu_wall_width(const polzaintu_wall *wall);
  *
  * Answers POLZAINTU_UNFIT, and nothing has changed, where part is longer than is due; where at
  * stages 1 to 3 row or next is not W long; and where *wall is none that a file begun with
- * polzaintu_wall_new comes to: a stage over 5, a stage 5 whose number is 0 or over 2^32 - 1, and at
- * stages 1 to 3 settings that don't pass, a row over R or an offset over 2^32 - 1. */
+ * polzaintu_wall_new comes to: a stage over 5, a stage 5 whose number is 0 or not below 2^32 - 1,
+ * and at stages 1 to 3 settings that don't pass, a row over R or an offset over 2^32 - 1. */
 POLZAINTU_ANSWER uint32_t polzaintu_wall_step(polzaintu_wall *wall, const uint8_t *part,
                                               size_t part_len, const uint64_t *row, size_t row_len,
                                               uint64_t *next, size_t next_len, uint64_t *offset);

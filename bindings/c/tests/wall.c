@@ -168,6 +168,8 @@ static void unfit_stages(void) {
     unfit(walk, 6, 6);
     walk.wall.stage = POLZAINTU_REFUSED;
     unfit(walk, 6, 6);
+    walk.wall.row = POLZAINTU_UNFIT;
+    unfit(walk, 6, 6);
     walk.wall.row = UINT64_C(1) << 32;
     unfit(walk, 6, 6);
 }

@@ -33,7 +33,7 @@ wall-written-cases = (refl, refl, refl, refl, refl)
 
 pub refused-cases : Refused-cases
 unfolding Refused-cases wall-settings wall-place staged-words refused-words refused-number place-words place
-refused-cases = (refl, refl, refl, refl, refl)
+refused-cases = (refl, refl, refl, refl, refl, refl)
 
 pub due-cases : Due-cases
 unfolding Due-cases widest-words wall-in staged place-in settings-from settings place due-of width-of due-size passes settings-refusal settings-tests first outside drift-cost up row-size marks-field mark-bytes

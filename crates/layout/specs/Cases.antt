@@ -79,7 +79,8 @@ Refused-cases =
     × (refused-number (refused-words 43 27 wall-place) ≡ 43)
     × (refused-number (staged-words 4) ≡ 0)
     × (refused-number (staged-words 6) ≡ 0)
-    × (refused-number (refused-words 4294967296 27 wall-place) ≡ 0)
+    × (refused-number (refused-words 4294967294 27 wall-place) ≡ 4294967294)
+    × (refused-number (refused-words 4294967295 27 wall-place) ≡ 0)
 
 -- what is due of a wall by its words, and W: the settings, row 0, the next row (POLZAINTU_DUE_MOST of the widest), one byte to see the end
 unfoldable pub widest-words : (stage : ℕ) → List ℕ

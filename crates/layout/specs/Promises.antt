@@ -12,7 +12,7 @@ use Rattle.tile.specs.Tile.{stamp-at, late-at}
 use Rattle.stages.specs.declared.Place.{Place}
 use Rattle.stages.specs.declared.Wall.{Wall}
 use Rattle.stages.specs.declared.Wall.the-variants.{Over}
-use Rattle.layout.specs.Words.{silent-word, stamps-in, place-in, wall-in, wall-words, refused-words, refused-number}
+use Rattle.layout.specs.Words.{unfit, silent-word, stamps-in, place-in, wall-in, wall-words, refused-words, refused-number}
 
 -- a word as a stamp: "2^64 - 1 is silent", and "a stamp over 2^41 - 1 that isn't silent" is 12
 unfoldable pub word-stamp : (word : ℕ) → Stamp
@@ -47,7 +47,7 @@ pub record Refusal-read (number offset : ℕ) (words : List ℕ) : Type 0 where
   pub over : wall-in words ≡ Over
 
 unfoldable pub Refusals-kept : Type 0
-Refusals-kept = (n at : ℕ) (p : Place) → n ≤ 4294967295 → Refusal-read n at (refused-words n at p)
+Refusals-kept = (n at : ℕ) (p : Place) → n < unfit → Refusal-read n at (refused-words n at p)
 
 -- and written again they are the same
 unfoldable pub Refusals-stay : Type 0

@@ -79,9 +79,9 @@ wall-words Over p = place-words 4 p
 unfoldable pub refused-words : (number offset : ℕ) → Place → List ℕ
 refused-words n at p = place-words 5 (place (p .settings) n at)
 
--- that number; 0 where the words are not a refusal's
+-- that number; 0 where the words are not a refusal's, as no step leaves them
 unfoldable pub refused-number : (words : List ℕ) → ℕ
-refused-number ws = cond (eqb (getD ws 0 0) 5) (cond (leb (getD ws 8 0) 4294967295) (getD ws 8 0) 0) 0
+refused-number ws = cond (eqb (getD ws 0 0) 5) (cond (ltb (getD ws 8 0) unfit) (getD ws 8 0) 0) 0
 
 -- a step can be taken: the words are a wall's, and the part is no longer than what is due
 unfoldable pub takes : (words : List ℕ) → (part : ℕ) → Bool

@@ -130,7 +130,7 @@ pub fn refused_number(words: &[u64; 10]) -> u32
     if words[0] != 5 {
         return 0;
     }
-    if 4_294_967_295 < words[8] {
+    if UNFIT as u64 <= words[8] {
         return 0;
     }
     words[8] as u32

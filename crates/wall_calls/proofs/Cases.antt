@@ -23,4 +23,4 @@ step-cases = ((refl, refl, refl), (refl, refl, refl), (refl, refl, refl), (refl,
 
 pub again-cases : Again-cases
 unfolding Again-cases Step wall-at settings-field step-answer refused-number takes refused-words due-of due-size row-size marks-field mark-bytes wall-in staged place-in place-words wall-words settings-from settings place step-number wall-left offset-left answer-of both-fit taken-of taken wall-fits place-fits passes settings-refusal settings-tests first outside drift-cost up wall-step settings-step start-step end-step stepped away settings-number start-number field-refusal field-tests or-else body big-endian settings-in times-in late-start table-from any-below row-shown number-shown offset-shown
-again-cases = ((refl, refl, refl), (refl, refl, refl), (refl, refl, refl), (refl, refl, refl), (refl, refl, refl), (refl, refl, refl), (refl, refl, refl), (refl, refl, refl))
+again-cases = ((refl, refl, refl), (refl, refl, refl), (refl, refl, refl), (refl, refl, refl), (refl, refl, refl), (refl, refl, refl), (refl, refl, refl), (refl, refl, refl), (refl, refl, refl))

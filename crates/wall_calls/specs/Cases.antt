@@ -33,7 +33,8 @@ Step-cases =
     × Step (wall-at 3 1 257) (0 ∷ []) (replicate 6 0) 6 44 (wall-at 5 44 257) 257
 
 -- an ended file once more, and with a byte; a file that is turned away once more, whatever is lent; a part longer than is due, at its
--- start and at its end; a refusal without a number, and a stage past all
+-- start and at its end; a refusal without a number, or with that of what is
+-- unfit, and a stage past all
 unfoldable pub Again-cases : Type 0
 Again-cases =
     Step (wall-at 4 1 257) [] [] 0 0 (wall-at 4 1 257) 7
@@ -43,4 +44,5 @@ Again-cases =
     × Step (replicate 10 0) (0 ∷ settings-field) [] 0 4294967295 (replicate 10 0) 7
     × Step (wall-at 3 1 257) (0 ∷ 0 ∷ []) (replicate 6 0) 6 4294967295 (wall-at 3 1 257) 7
     × Step (wall-at 5 0 27) [] [] 0 4294967295 (wall-at 5 0 27) 7
+    × Step (wall-at 5 4294967295 27) [] [] 0 4294967295 (wall-at 5 4294967295 27) 7
     × Step (wall-at 6 41 27) [] [] 0 4294967295 (wall-at 6 41 27) 7
