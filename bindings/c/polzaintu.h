@@ -2,15 +2,20 @@
  *
  * Every function answers every input and keeps nothing between calls. An answer of uint32_t is 0,
  * or the number under which the call is turned away: the lowest that applies, and what was lent to
- * the call holds what it held. A wall file keeps an order of its own, and is over once it is turned
- * away (polzaintu_wall_step). Each function lists its numbers; docs/NUMBERS.md has them all.
- * Times, delays, stamps and gaps are in ticks; W, R, d, u, A, r and h are the settings.
+ * the call holds what it held. A wall file keeps an order of its own, and stays turned away
+ * (polzaintu_wall_step). Each function lists its numbers; polzaintu_words has the words of each,
+ * and docs/NUMBERS.md a table. Times, delays, stamps and gaps are in ticks; W, R, d, u, A, r and h
+ * are the settings.
  *
  * What a caller owes:
- * - No pointer is NULL, not even one whose count is 0. Each is aligned for its type, and reaches as
- *   many values as its count says, or one where it has no count.
- * - What a call writes overlaps nothing else that the call is lent, and nobody else reads or writes
- *   it before the call returns. Nobody writes what a call reads.
+ * - A pointer that comes with a count may be NULL where the count is 0, as an empty std::vector
+ *   has it; it is not followed then. No other is NULL. Each is aligned for its type, and reaches
+ *   as many values as its count says, or one where it has no count.
+ * - What a call writes overlaps nothing else that the call is lent. No call works in place: one
+ *   that is lent an array both to read and to write may read what it has written, and its answer
+ *   and its times are then wrong without a number.
+ * - Nobody else reads or writes what a call writes before the call returns. Nobody writes what a
+ *   call reads.
  * - A bool is 0 or 1.
  *
  * The archive takes each struct as an array of 64-bit words; the sizes are asserted below. */
@@ -22,9 +27,32 @@
 #include <stddef.h>
 #include <stdint.h>
 
+/* Marks an answer that a caller has to look at. */
+#if defined(__cplusplus) && __cplusplus >= 201703L
+#define POLZAINTU_ANSWER [[nodiscard]]
+#elif !defined(__cplusplus) && defined(__STDC_VERSION__) && __STDC_VERSION__ >= 202311L
+#define POLZAINTU_ANSWER [[nodiscard]]
+#elif defined(__GNUC__)
+#define POLZAINTU_ANSWER __attribute__((warn_unused_result))
+#else
+#define POLZAINTU_ANSWER
+#endif
+
 #ifdef __cplusplus
 extern "C" {
 #endif
+
+/* The version of this header; polzaintu_version answers that of the archive. */
+#define POLZAINTU_VERSION_MAJOR 0
+#define POLZAINTU_VERSION_MINOR 2
+#define POLZAINTU_VERSION_PATCH 0
+
+/* The version as one number, which grows from version to version. */
+#define POLZAINTU_VERSION                                                                          \
+    ((POLZAINTU_VERSION_MAJOR * 1000 + POLZAINTU_VERSION_MINOR) * 1000 + POLZAINTU_VERSION_PATCH)
+
+/* POLZAINTU_VERSION as it was where the archive was built. */
+POLZAINTU_ANSWER uint32_t polzaintu_version(void);
 
 /* A silent sender, as a stamp and as a link value. */
 #define POLZAINTU_SILENT UINT64_MAX
@@ -35,6 +63,69 @@ extern "C" {
 /* The most tiles of a row, and the most bytes that a step of a wall file is to be given. */
 #define POLZAINTU_WIDTH_MOST 256
 #define POLZAINTU_DUE_MOST 6710
+
+/* The words of an answer. */
+POLZAINTU_ANSWER static inline const char *polzaintu_words(uint32_t number) {
+    switch (number) {
+    case 0:
+        return "accepted";
+    /* numbers.tsv: begin; bindings/words writes these */
+    case 1:
+        return "W is outside 6 to 256";
+    case 2:
+        return "R is outside 1 to 1,024";
+    case 3:
+        return "d is outside 1 to 1,000,000";
+    case 4:
+        return "u is greater than d";
+    case 5:
+        return "A is outside 1 to 1,000,000";
+    case 6:
+        return "r is greater than 10,000";
+    case 7:
+        return "h is outside 1 to 62,500";
+    case 8:
+        return "h is less than u + c + 2, where c is r * A / (1,000,000 + r) rounded up";
+    case 9:
+        return "A is less than 16h";
+    case 11:
+        return "the count of neighbours is neither 2 nor 3";
+    case 12:
+        return "a stamp that is not silent is outside 0 to 2^41 - 1";
+    case 13:
+        return "more than one stamp is silent";
+    case 21:
+        return "something lent is not as long as W asks";
+    case 22:
+        return "a mark is set beyond column W - 1";
+    case 23:
+        return "the row before has a correct tile with a time above 2^40 - 1";
+    case 24:
+        return "more than one of a tile's senders is faulty";
+    case 25:
+        return "the drift of a tile is greater than r";
+    case 26:
+        return "the delay of a correct sender is outside d - u to d, or a faulty sender's pulse, "
+               "unless silent, arrives after 2^40 - 1";
+    case 31:
+        return "a correct tile has a time above 2^41 - 1";
+    case 41:
+        return "the tag is not the one due";
+    case 42:
+        return "the length is not the one due";
+    case 43:
+        return "the file stops before the field due is complete";
+    case 44:
+        return "the file goes on after its last field";
+    case 45:
+        return "a time of row 0 is above 2^39 - 1";
+    /* numbers.tsv: end */
+    case POLZAINTU_UNFIT:
+        return "what was lent fits no wall";
+    default:
+        return "no such number";
+    }
+}
 
 /* ---- Settings ---- */
 
@@ -51,9 +142,8 @@ typedef struct {
 
 /* Checks settings. Every function that is given settings repeats these checks first.
  *
- * Answers 0; 1 W, 2 R, 3 d, 4 u, 5 A, 6 r, 7 h outside its range; 8 h below u + c + 2; 9 A below
- * 16h. */
-uint32_t polzaintu_settings_refusal(const polzaintu_settings *settings);
+ * Answers 0; 1 to 7 W, R, d, u, A, r, h by turns; 8 and 9 h and A against the others. */
+POLZAINTU_ANSWER uint32_t polzaintu_settings_refusal(const polzaintu_settings *settings);
 
 /* ---- A tile ---- */
 
@@ -72,16 +162,22 @@ typedef struct {
 /* What a tile forwards, by the forwarding rule. A stamp is 0 to 2^41 - 1, or POLZAINTU_SILENT.
  * Writes the answer.
  *
- * Answers 0; 1 to 9; 11 count not 2 or 3; 12 a stamp over 2^41 - 1 that isn't silent; 13 two or
- * more silent. */
-uint32_t polzaintu_tile(const polzaintu_settings *settings, const polzaintu_stamps *stamps,
-                        polzaintu_forwarded *answer);
+ * Answers 0; 1 to 9; 11 for the count, 12 for a stamp, 13 for silence. */
+POLZAINTU_ANSWER uint32_t polzaintu_tile(const polzaintu_settings *settings,
+                                         const polzaintu_stamps *stamps,
+                                         polzaintu_forwarded *answer);
 
 /* ---- A row ----
  *
- * Two tiles of a row are neighbours where their columns differ by 1, or are 0 and 2, or W - 3 and
- * W - 1. A tile's senders are the tiles of the row before in its own column and that column's
- * neighbours: four for columns 2 and W - 3, three for every other. */
+ * Columns c and c + 1 are neighbours; so are columns 0 and 2, and columns W - 3 and W - 1. A tile's
+ * senders are the tiles of the row before in its own column and that column's neighbours: four for
+ * columns 2 and W - 3, three for every other.
+ *
+ * The fault marks of a row are (W + 7) / 8 bytes: byte c / 8 has the mark of column c at its bit
+ * c % 8, the lowest being bit 0. A bit beyond column W - 1 is 0.
+ *
+ * The link values of a row are 3W + 2, tile after tile and, of each tile, sender after sender as
+ * their columns rise. */
 
 typedef struct {
     uint64_t earliest, latest; /* over all W tiles of the row */
@@ -90,21 +186,32 @@ typedef struct {
 /* Works out a row from the row before. Writes its times, and the earliest and latest of them.
  *
  *   before  the W times of the row before, up to 2^40 - 1; a faulty tile's is not read
- *   marks   its fault marks, (W + 7) / 8 bytes: one bit a column, column 0 lowest in the first
- *           byte; bits past column W - 1 are 0
+ *   marks   the fault marks of the row before
  *   drifts  the W drifts of the row's tiles, 0 to r
- *   links   3W + 2 link values, by tile and then by sender column: the delay, d - u to d, of a
- *           correct sender; of a faulty one the tick at which its pulse arrives, up to 2^40 - 1, or
- *           POLZAINTU_SILENT
+ *   links   the link values: of a correct sender the delay, d - u to d; of a faulty one the tick
+ *           at which its pulse arrives, up to 2^40 - 1, or POLZAINTU_SILENT
  *   times   the W times to be written
  *
- * Answers 0; 1 to 9; 21 a wrong length; 22 a mark bit past the last column; 23 a correct tile's
- * time over 2^40 - 1; 24 a tile with two faulty predecessors; 25 a drift over r; 26 a delay outside
- * d - u to d, or a faulty arrival over 2^40 - 1 that isn't silent. */
-uint32_t polzaintu_row(const polzaintu_settings *settings, const uint64_t *before,
-                       size_t before_len, const uint8_t *marks, size_t marks_len,
-                       const uint32_t *drifts, size_t drifts_len, const uint64_t *links,
-                       size_t links_len, uint64_t *times, size_t times_len, polzaintu_ends *ends);
+ * Answers 0; 1 to 9; 21 for a length, 22 and 24 for the marks, 23 for a time before, 25 for a
+ * drift, 26 for a link value. */
+POLZAINTU_ANSWER uint32_t polzaintu_row(const polzaintu_settings *settings, const uint64_t *before,
+                                        size_t before_len, const uint8_t *marks, size_t marks_len,
+                                        const uint32_t *drifts, size_t drifts_len,
+                                        const uint64_t *links, size_t links_len, uint64_t *times,
+                                        size_t times_len, polzaintu_ends *ends);
+
+/* Whether a tile is marked faulty. Bits beyond column W - 1 are not read. Writes faulty.
+ *
+ * Answers 0; 1 to 9; 21 marks of another length; POLZAINTU_UNFIT where column is not 0 to W - 1. */
+POLZAINTU_ANSWER uint32_t polzaintu_mark(const polzaintu_settings *settings, const uint8_t *marks,
+                                         size_t marks_len, uint64_t column, bool *faulty);
+
+/* Where the link from the sender's column to the tile's stands among the link values. Writes the
+ * place.
+ *
+ * Answers 0; 1 to 9; POLZAINTU_UNFIT where tile is not 0 to W - 1 or has no such sender. */
+POLZAINTU_ANSWER uint32_t polzaintu_link_place(const polzaintu_settings *settings, uint64_t tile,
+                                               uint64_t sender, uint64_t *place);
 
 /* ---- A seam: two neighbouring tiles of one row ---- */
 
@@ -124,17 +231,41 @@ typedef struct {
  * Writes the side, one of the four above, and the halves where it is POLZAINTU_CLOSED; the halves
  * of an open seam are left as they were.
  *
- * Answers 0; 31 a correct tile's time over 2^41 - 1. */
-uint32_t polzaintu_seam(uint64_t left, bool left_faulty, uint64_t right, bool right_faulty,
-                        uint32_t *side, polzaintu_halves *halves);
+ * Answers 0; 31. */
+POLZAINTU_ANSWER uint32_t polzaintu_seam(uint64_t left, bool left_faulty, uint64_t right,
+                                         bool right_faulty, uint32_t *side,
+                                         polzaintu_halves *halves);
+
+typedef struct {
+    uint64_t left, right; /* columns */
+} polzaintu_pair;
+
+/* The columns of a row's seam. A row has W + 1 seams, numbered from 0 to W in the order in which
+ * wallrun prints them. Writes the columns.
+ *
+ * Answers 0; 1 to 9; POLZAINTU_UNFIT where seam is over W. */
+POLZAINTU_ANSWER uint32_t polzaintu_seam_columns(const polzaintu_settings *settings, uint64_t seam,
+                                                 polzaintu_pair *columns);
+
+/* A row's seam with its columns, from the row's W times and its fault marks; the last row of a wall
+ * file has none, and is lent bytes of 0. Writes the columns, the side and the halves, as
+ * polzaintu_seam_columns and polzaintu_seam do.
+ *
+ * Answers 0; 1 to 9; 21 times or marks of another length; POLZAINTU_UNFIT where seam is over W;
+ * 31. */
+POLZAINTU_ANSWER uint32_t polzaintu_row_seam(const polzaintu_settings *settings,
+                                             const uint64_t *times, size_t times_len,
+                                             const uint8_t *marks, size_t marks_len, uint64_t seam,
+                                             polzaintu_pair *columns, uint32_t *side,
+                                             polzaintu_halves *halves);
 
 /* ---- How far one broken tile reaches ---- */
 
-/* Writes B of a row's W times to gap: the largest difference between neighbouring pulses.
+/* Writes B of a row's W times to gap: how far apart two neighbours pulse at most.
  *
  * Answers 0; 1 to 9; 21 a row that is not W long. */
-uint32_t polzaintu_widest_gap(const polzaintu_settings *settings, const uint64_t *row,
-                              size_t row_len, uint64_t *gap);
+POLZAINTU_ANSWER uint32_t polzaintu_widest_gap(const polzaintu_settings *settings,
+                                               const uint64_t *row, size_t row_len, uint64_t *gap);
 
 typedef struct {
     uint64_t ticks; /* no pulse differs by more */
@@ -142,15 +273,53 @@ typedef struct {
     uint64_t last;  /* nor of a column after this one */
 } polzaintu_range;
 
+/* A broken tile, and how many rows below it a search looks. */
+typedef struct {
+    uint64_t gap;    /* B of the tile's row: 0 to 2^41 - 1 */
+    uint64_t rows;   /* 1 to R */
+    uint64_t column; /* the tile's: 0 to W - 1 */
+} polzaintu_broken;
+
 /* What a search has to cover so many rows below a broken tile: by how much a pulse can differ from
- * what it would be were that tile correct and all else equal, and in which columns. The column is
- * the tile's, the gap is B of its row. The ticks are 2 * gap + 8h + (rows - 1), the columns those
- * within as many steps from neighbour to neighbour as there are rows. Writes the range.
+ * what it would be were that tile correct and all else equal, and in which columns. The ticks are
+ * 2 * gap + 8h + (rows - 1), the columns those within as many steps from neighbour to neighbour as
+ * there are rows. Writes the range.
  *
- * Answers 0; 1 to 9; POLZAINTU_UNFIT where rows is not 1 to R, column is not 0 to W - 1 or gap is
- * over 2^41 - 1. */
-uint32_t polzaintu_reach(const polzaintu_settings *settings, uint64_t gap, uint64_t rows,
-                         uint64_t column, polzaintu_range *range);
+ * Answers 0; 1 to 9; POLZAINTU_UNFIT where gap, rows or column is outside its range. */
+POLZAINTU_ANSWER uint32_t polzaintu_reach(const polzaintu_settings *settings,
+                                          const polzaintu_broken *broken, polzaintu_range *range);
+
+/* A broken tile by its row, and a later row in which a search looks. */
+typedef struct {
+    uint64_t gap;    /* B of the tile's row: 0 to 2^41 - 1 */
+    uint64_t row;    /* the tile's */
+    uint64_t later;  /* after the tile's row, up to R */
+    uint64_t column; /* the tile's: 0 to W - 1 */
+} polzaintu_broken_in_row;
+
+/* The same, later - row rows below the tile.
+ *
+ * Answers 0; 1 to 9; POLZAINTU_UNFIT where gap, later or column is outside its range. */
+POLZAINTU_ANSWER uint32_t polzaintu_reach_in_row(const polzaintu_settings *settings,
+                                                 const polzaintu_broken_in_row *broken,
+                                                 polzaintu_range *range);
+
+/* The search range of a whole wall, row by row: all zeros before row 0. */
+typedef struct {
+    uint64_t row;     /* the row that is due, so R once all are surveyed */
+    uint64_t gap;     /* B of the last row surveyed */
+    uint64_t largest; /* the largest reach so far: of each row surveyed, that in row R */
+} polzaintu_survey;
+
+/* Surveys the row that is due; rows 0 to R - 1 are to be handed in, in their order, of a wall
+ * without faults. Once survey->row is R, no pulse of the wall differs by more than
+ * survey->largest, whichever one tile of it breaks. Writes the survey.
+ *
+ * Answers 0; 1 to 9; 21 a row that is not W long; POLZAINTU_UNFIT where survey->row is R or more,
+ * or B of the row is over 2^41 - 1. */
+POLZAINTU_ANSWER uint32_t polzaintu_survey_row(const polzaintu_settings *settings,
+                                               const uint64_t *row, size_t row_len,
+                                               polzaintu_survey *survey);
 
 /* ---- A wall file, step by step ----
  *
@@ -163,26 +332,27 @@ enum {
     POLZAINTU_START_DUE = 1, /* row 0 */
     POLZAINTU_ROW_DUE = 2,   /* the next row: the marks of the row before, then its own tiles */
     POLZAINTU_END_DUE = 3,   /* the end of the file */
-    POLZAINTU_OVER = 4       /* nothing: the file has ended, or is turned away */
+    POLZAINTU_ENDED = 4,     /* nothing: the file has ended rightly */
+    POLZAINTU_REFUSED = 5    /* nothing: the file is turned away */
 };
 
 /* How far a file has been taken; polzaintu_wall_new and polzaintu_wall_step alone write it. */
 typedef struct {
-    uint64_t stage;              /* what is due, one of the five above */
-    polzaintu_settings settings; /* the file's, at stages 1 to 3 */
-    uint64_t row;                /* the last row accepted, at stages 2 and 3 */
-    uint64_t offset;             /* the bytes taken, at stages 1 to 3 */
+    uint64_t stage;              /* what is due, one of the six above */
+    polzaintu_settings settings; /* the file's, at stages 1 to 4, and at 5 where they were taken */
+    uint64_t row;                /* the last row accepted, at stages 2 to 4; at 5 the number */
+    uint64_t offset;             /* the bytes taken, at stages 1 to 4; at 5 the refusal's offset */
 } polzaintu_wall;
 
 /* Begins a file. */
 void polzaintu_wall_new(polzaintu_wall *wall);
 
 /* How many bytes the next step is to be given; fewer only where the file ends before. At most
- * POLZAINTU_DUE_MOST; 1 at stage 3, so that a byte too many is seen, and 0 at stage 4. */
-size_t polzaintu_wall_due(const polzaintu_wall *wall);
+ * POLZAINTU_DUE_MOST; 1 at stage 3, so that a byte too many is seen, and 0 at stages 4 and 5. */
+POLZAINTU_ANSWER size_t polzaintu_wall_due(const polzaintu_wall *wall);
 
 /* W at stages 1 to 3, otherwise 0. */
-size_t polzaintu_wall_width(const polzaintu_wall *wall);
+POLZAINTU_ANSWER size_t polzaintu_wall_width(const polzaintu_wall *wall);
 
 /* Takes the due part of the file.
  *
@@ -191,26 +361,29 @@ size_t polzaintu_wall_width(const polzaintu_wall *wall);
  *   next    W times, written at stage 1 with row 0 and at stage 2 with the next row
  *   offset  written where the file is turned away
  *
- * At stage 0 both rows may have any length. The marks of a row come with the row after it: once a
- * step at stage 2 is taken, the (W + 7) / 8 bytes from part[3] on are the marks of `row`. The last
- * row has none.
+ * At stages 0, 4 and 5 both rows may have any length. The marks of a row come with the row after
+ * it: once a step at stage 2 is taken, the (W + 7) / 8 bytes from part[3] on are the marks of
+ * `row`. The last row has none.
  *
  * Answers 0 where the part is taken and *wall has moved on. At stage 4 nothing is taken and nothing
  * changes.
  *
- * Answers 1 to 9, 22, 24 to 26, 41 another tag than due, 42 another length than due, 43 the file
- * ends inside or before a due field, 44 bytes after the last, or 45 a row 0 time over 2^39 - 1,
- * where the file is turned away. Then *wall is at stage 4, *offset is the byte offset that wallrun
- * prints, and next holds what it held. For each field 43 comes first where under three bytes are
- * left, then 41, 42, 43 for the body, then its contents, those of tag 3 together with those of
- * tag 4.
+ * Answers 1 to 9, 22 to 26, or 41 to 45 where the file is turned away. Then *wall is at stage 5,
+ * *offset is the byte offset that wallrun prints, and next holds what it held. 23 can't come where
+ * *wall and `row` are as the steps of one file left them. Of each field the header is looked at
+ * first, then whether the body is there, then what it holds; the contents of tags 3 and 4 are
+ * looked at together.
  *
- * Answers POLZAINTU_UNFIT where at stages 1 to 3 row or next is not W long, or *wall has settings
- * that don't pass, a row over R or an offset over 2^32 - 1, which no step leaves. Nothing has
- * changed then. */
-uint32_t polzaintu_wall_step(polzaintu_wall *wall, const uint8_t *part, size_t part_len,
-                             const uint64_t *row, size_t row_len, uint64_t *next, size_t next_len,
-                             uint64_t *offset);
+ * At stage 5 it answers the same number again, whatever it is lent, and writes the same offset;
+ * nothing else changes.
+ *
+ * Answers POLZAINTU_UNFIT, and nothing has changed, where part is longer than is due; where at
+ * stages 1 to 3 row or next is not W long; and where *wall is none that a file begun with
+ * polzaintu_wall_new comes to: a stage over 5, a stage 5 whose number is 0 or not below 2^32 - 1,
+ * and at stages 1 to 3 settings that don't pass, a row over R or an offset over 2^32 - 1. */
+POLZAINTU_ANSWER uint32_t polzaintu_wall_step(polzaintu_wall *wall, const uint8_t *part,
+                                              size_t part_len, const uint64_t *row, size_t row_len,
+                                              uint64_t *next, size_t next_len, uint64_t *offset);
 
 static_assert(sizeof(size_t) == 8, "a count is a 64-bit word");
 static_assert(sizeof(bool) == 1, "a bool is a byte");
@@ -220,7 +393,11 @@ static_assert(sizeof(polzaintu_stamps) == 5 * 8, "five words");
 static_assert(sizeof(polzaintu_forwarded) == 3 * 8, "three words");
 static_assert(sizeof(polzaintu_ends) == 2 * 8, "two words");
 static_assert(sizeof(polzaintu_halves) == 2 * 8, "two words");
+static_assert(sizeof(polzaintu_pair) == 2 * 8, "two words");
 static_assert(sizeof(polzaintu_range) == 3 * 8, "three words");
+static_assert(sizeof(polzaintu_broken) == 3 * 8, "three words");
+static_assert(sizeof(polzaintu_broken_in_row) == 4 * 8, "four words");
+static_assert(sizeof(polzaintu_survey) == 3 * 8, "three words");
 static_assert(sizeof(polzaintu_wall) == 10 * 8, "ten words");
 
 #ifdef __cplusplus

@@ -48,7 +48,10 @@ int main(void) {
     tile_tests();
     row_tests();
     seam_tests();
+    places_tests();
     reach_tests();
+    empty_tests();
+    words_tests();
     wall_tests();
     wall_number_tests();
     printf("%u checks, %u failed\n", checks, failures);

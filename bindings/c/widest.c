@@ -7,18 +7,10 @@
 #include <stdio.h>
 #include <stdlib.h>
 
-/* A row as it is shown: its number, its times and its fault marks. */
-struct row {
-    uint64_t number;
-    const uint64_t *times;
-    size_t width;
-    const uint8_t *marks;
-};
-
 struct widest {
     bool found;
     uint64_t row;
-    size_t left, right;
+    polzaintu_pair columns;
     double half_gap;
 };
 
@@ -26,29 +18,23 @@ static double size_of(double gap) {
     return gap < 0 ? -gap : gap;
 }
 
-static bool is_faulty(const struct row *row, size_t column) {
-    return row->marks[column / 8] >> column % 8 & 1;
-}
-
-static void look_at_seam(struct widest *widest, const struct row *row, size_t left, size_t right) {
-    uint32_t side;
-    polzaintu_halves halves;
-    /* 31 can't arise: the times of a file's rows stay below 2^41. */
-    if (polzaintu_seam(row->times[left], is_faulty(row, left), row->times[right],
-                       is_faulty(row, right), &side, &halves) != 0 ||
-        side != POLZAINTU_CLOSED)
-        return;
-    if (!widest->found || size_of(widest->half_gap) < size_of(halves.half_gap))
-        *widest = (struct widest){true, row->number, left, right, halves.half_gap};
-}
-
-/* By left column and then right. */
-static void look_at_row(struct widest *widest, const struct row *row) {
-    for (size_t left = 0; left + 1 < row->width; left++) {
-        look_at_seam(widest, row, left, left + 1);
-        if (left == 0 || left + 3 == row->width)
-            look_at_seam(widest, row, left, left + 2);
+/* Looks at each seam of a row, in the order of wallrun. */
+static uint32_t look_at_row(struct widest *widest, const polzaintu_settings *settings,
+                            uint64_t number, const uint64_t *times, const uint8_t *marks) {
+    for (uint64_t seam = 0; seam <= settings->width; seam++) {
+        polzaintu_pair columns;
+        uint32_t side;
+        polzaintu_halves halves;
+        const uint32_t answer =
+            polzaintu_row_seam(settings, times, settings->width, marks, (settings->width + 7) / 8,
+                               seam, &columns, &side, &halves);
+        if (answer != 0)
+            return answer;
+        if (side == POLZAINTU_CLOSED &&
+            (!widest->found || size_of(widest->half_gap) < size_of(halves.half_gap)))
+            *widest = (struct widest){true, number, columns, halves.half_gap};
     }
+    return 0;
 }
 
 static int failed(const char *what) {
@@ -66,18 +52,15 @@ int main(void) {
     uint8_t part[POLZAINTU_DUE_MOST];
     uint64_t rows[2][POLZAINTU_WIDTH_MOST] = {{0}};
     uint64_t *times = rows[0], *next = rows[1];
-    struct widest widest = {false, 0, 0, 0, 0.0};
+    struct widest widest = {false, 0, {0, 0}, 0.0};
     polzaintu_wall wall;
     polzaintu_wall_new(&wall);
-    while (wall.stage != POLZAINTU_OVER) {
-        const uint64_t stage = wall.stage;
+    while (wall.stage != POLZAINTU_ENDED) {
+        const polzaintu_wall before = wall;
         const size_t width = polzaintu_wall_width(&wall);
         const size_t length = fread(part, 1, polzaintu_wall_due(&wall), stdin);
         if (ferror(stdin))
             return failed("widest: standard input");
-        /* The last row accepted: its marks come with the next one, and the last of all has none. */
-        const bool ends = stage == POLZAINTU_END_DUE;
-        const struct row row = {wall.row, times, width, ends ? NO_MARKS : part + 3};
         uint64_t offset;
         const uint32_t number =
             polzaintu_wall_step(&wall, part, length, times, width, next, width, &offset);
@@ -85,17 +68,25 @@ int main(void) {
             printf("refused %" PRIu32 " at %" PRIu64 "\n", number, offset);
             return finish();
         }
-        if (ends || (stage == POLZAINTU_ROW_DUE && row.number > 0))
-            look_at_row(&widest, &row);
-        if (stage == POLZAINTU_START_DUE || stage == POLZAINTU_ROW_DUE) {
+        /* The last row accepted: its marks come with the next one, and the last of all has none. */
+        const bool ends = before.stage == POLZAINTU_END_DUE;
+        if (ends || (before.stage == POLZAINTU_ROW_DUE && before.row > 0)) {
+            const uint32_t answer = look_at_row(&widest, &before.settings, before.row, times,
+                                                ends ? NO_MARKS : part + 3);
+            if (answer != 0) {
+                fprintf(stderr, "widest: %s\n", polzaintu_words(answer));
+                return EXIT_FAILURE;
+            }
+        }
+        if (before.stage == POLZAINTU_START_DUE || before.stage == POLZAINTU_ROW_DUE) {
             uint64_t *written = next;
             next = times;
             times = written;
         }
     }
     if (widest.found)
-        printf("widest %" PRIu64 " %zu %zu %.1f\n", widest.row, widest.left, widest.right,
-               widest.half_gap);
+        printf("widest %" PRIu64 " %" PRIu64 " %" PRIu64 " %.1f\n", widest.row, widest.columns.left,
+               widest.columns.right, widest.half_gap);
     else
         printf("no closed seam\n");
     return finish();

@@ -61,7 +61,8 @@ static void ranges_of_width(size_t width) {
         count_hops(width, column, hops);
         for (uint64_t rows = 1; rows <= width; rows++) {
             polzaintu_range range;
-            CHECK(polzaintu_reach(&settings, 1000, rows, column, &range) == 0);
+            const polzaintu_broken broken = {1000, rows, column};
+            CHECK(polzaintu_reach(&settings, &broken, &range) == 0);
             CHECK(range.ticks == 2000 + 96 + (rows - 1));
             for (size_t c = 0; c < width; c++)
                 CHECK((range.first <= c && c <= range.last) == (hops[c] <= rows));
@@ -69,12 +70,23 @@ static void ranges_of_width(size_t width) {
     }
 }
 
+static bool same_range(polzaintu_range a, polzaintu_range b) {
+    return a.ticks == b.ticks && a.first == b.first && a.last == b.last;
+}
+
+/* So many rows below, and in a row as many after row 7. */
 static void range_is(uint64_t gap, uint64_t rows, uint64_t column, polzaintu_range expected) {
     const polzaintu_settings settings = {9, 1024, 100, 10, 400, 0, 12};
+    const polzaintu_broken broken = {.gap = gap, .rows = rows, .column = column};
     polzaintu_range range;
-    CHECK(polzaintu_reach(&settings, gap, rows, column, &range) == 0);
-    CHECK(range.ticks == expected.ticks);
-    CHECK(range.first == expected.first && range.last == expected.last);
+    CHECK(polzaintu_reach(&settings, &broken, &range) == 0);
+    CHECK(same_range(range, expected));
+    const uint64_t row = rows + 7 <= 1024 ? 7 : 1024 - rows;
+    const polzaintu_broken_in_row there = {
+        .gap = gap, .row = row, .later = row + rows, .column = column};
+    fill(&range, sizeof range);
+    CHECK(polzaintu_reach_in_row(&settings, &there, &range) == 0);
+    CHECK(same_range(range, expected));
 }
 
 static void ranges_by_hand(void) {
@@ -92,10 +104,14 @@ static void ranges_by_hand(void) {
 /* Turned away with the number, the range left as it was. */
 static void no_range(polzaintu_settings settings, uint64_t gap, uint64_t rows, uint64_t column,
                      uint32_t number) {
+    const polzaintu_broken broken = {.gap = gap, .rows = rows, .column = column};
+    const polzaintu_broken_in_row there = {.gap = gap, .row = 0, .later = rows, .column = column};
     polzaintu_range range, before;
     fill(&range, sizeof range);
     fill(&before, sizeof before);
-    CHECK(polzaintu_reach(&settings, gap, rows, column, &range) == number);
+    CHECK(polzaintu_reach(&settings, &broken, &range) == number);
+    CHECK(memcmp(&range, &before, sizeof range) == 0);
+    CHECK(polzaintu_reach_in_row(&settings, &there, &range) == number);
     CHECK(memcmp(&range, &before, sizeof range) == 0);
 }
 
@@ -115,6 +131,55 @@ static void range_numbers(void) {
     no_range(PRINTED, UINT64_MAX, 1, 0, POLZAINTU_UNFIT);
 }
 
+/* A later row that is none: the tile's own, one before it, one past R. */
+static void no_later_row(void) {
+    const uint64_t rows[][2] = {{1, 1}, {1, 0}, {0, 2}, {UINT64_MAX, 1}, {0, UINT64_MAX}};
+    for (size_t i = 0; i < sizeof rows / sizeof *rows; i++) {
+        const polzaintu_broken_in_row there = {
+            .gap = 0, .row = rows[i][0], .later = rows[i][1], .column = 0};
+        polzaintu_range range, before;
+        fill(&range, sizeof range);
+        fill(&before, sizeof before);
+        CHECK(polzaintu_reach_in_row(&PRINTED, &there, &range) == POLZAINTU_UNFIT);
+        CHECK(memcmp(&range, &before, sizeof range) == 0);
+    }
+}
+
+/* Rows 0 and 1 of a wall with R 2; the first has the larger reach, 2 * 80 + 8 * 12 + 1. */
+static void surveyed_rows(void) {
+    const polzaintu_settings settings = {6, 2, 100, 10, 400, 0, 12};
+    const uint64_t rows[2][6] = {{0, 0, 0, 80, 0, 0}, {9, 9, 9, 45, 9, 9}};
+    polzaintu_survey survey = {0, 0, 0};
+    CHECK(polzaintu_survey_row(&settings, rows[0], 6, &survey) == 0);
+    CHECK(survey.row == 1 && survey.gap == 80 && survey.largest == 257);
+    CHECK(polzaintu_survey_row(&settings, rows[1], 6, &survey) == 0);
+    CHECK(survey.row == 2 && survey.gap == 36 && survey.largest == 257);
+    CHECK(polzaintu_survey_row(&settings, rows[1], 6, &survey) == POLZAINTU_UNFIT);
+    CHECK(survey.row == 2 && survey.gap == 36 && survey.largest == 257);
+}
+
+/* Turned away with the number, the survey and the row left as they were. */
+static void not_surveyed(polzaintu_settings settings, uint64_t due, uint64_t last_time,
+                         size_t length, uint32_t number) {
+    uint64_t row[7] = {0, 0, 0, 0, 0, last_time, 0}, held[7];
+    memcpy(held, row, sizeof row);
+    polzaintu_survey survey = {due, 77, 78};
+    CHECK(polzaintu_survey_row(&settings, row, length, &survey) == number);
+    CHECK(survey.row == due && survey.gap == 77 && survey.largest == 78);
+    CHECK(memcmp(row, held, sizeof row) == 0);
+}
+
+static void survey_numbers(void) {
+    for (size_t i = 0; i < REFUSED_SETTINGS_COUNT; i++)
+        not_surveyed(REFUSED_SETTINGS[i].settings, UINT64_MAX, 0, 0, REFUSED_SETTINGS[i].number);
+    not_surveyed(PRINTED, UINT64_MAX, 0, 5, 21);
+    not_surveyed(PRINTED, 0, 0, 7, 21);
+    not_surveyed(PRINTED, 0, 0, 0, 21);
+    not_surveyed(PRINTED, 1, 0, 6, POLZAINTU_UNFIT);
+    not_surveyed(PRINTED, UINT64_MAX, 0, 6, POLZAINTU_UNFIT);
+    not_surveyed(PRINTED, 0, GAP_MOST + 1, 6, POLZAINTU_UNFIT);
+}
+
 void reach_tests(void) {
     gaps_by_hand();
     gap_numbers();
@@ -124,4 +189,7 @@ void reach_tests(void) {
     ranges_of_width(16);
     ranges_by_hand();
     range_numbers();
+    no_later_row();
+    surveyed_rows();
+    survey_numbers();
 }

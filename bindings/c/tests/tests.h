@@ -36,7 +36,10 @@ void settings_tests(void);
 void tile_tests(void);
 void row_tests(void);
 void seam_tests(void);
+void places_tests(void);
 void reach_tests(void);
+void empty_tests(void);
+void words_tests(void);
 void wall_tests(void);
 void wall_number_tests(void);
 

@@ -39,7 +39,7 @@ static void accepted_wall(void) {
     /* Tile 3's own stamp is 1636, its neighbours' are 1600: D is 24, P is 1612. */
     row_is(walk.next, (uint64_t[]){2000, 2000, 2000, 2012, 2000, 2000});
     go(&walk, &file, 1);
-    CHECK(walk.wall.stage == POLZAINTU_OVER);
+    CHECK(walk.wall.stage == POLZAINTU_ENDED);
     CHECK(polzaintu_wall_due(&walk.wall) == 0);
     CHECK(polzaintu_wall_width(&walk.wall) == 0);
     row_is(walk.next, (uint64_t[]){2000, 2000, 2000, 2012, 2000, 2000});
@@ -64,7 +64,7 @@ static void printed_seams(void) {
     file.length = LAST_TAG_3;
     struct walk walk = begin();
     go(&walk, &file, 4);
-    CHECK(walk.wall.stage == POLZAINTU_OVER);
+    CHECK(walk.wall.stage == POLZAINTU_ENDED);
     for (size_t i = 0; i < sizeof SEAMS / sizeof *SEAMS; i++) {
         uint32_t side = 9;
         polzaintu_halves halves;
@@ -87,15 +87,46 @@ static void faulty_tile(void) {
     row_is(walk.next, (uint64_t[]){2000, 2000, 2000, 2036, 2000, 2000});
 }
 
-/* The step fits no wall, and changes nothing. */
-static void unfit(struct walk walk, size_t row_len, size_t next_len) {
+/* The search range of the small wall, from rows 0 and 1; row 0 has the larger reach. */
+static void surveyed_wall(void) {
+    struct wall_file file = small_wall();
+    struct walk walk = begin();
+    polzaintu_survey survey = {0, 0, 0};
+    go(&walk, &file, 2);
+    while (walk.wall.stage == POLZAINTU_ROW_DUE) {
+        CHECK(survey.row == walk.wall.row);
+        CHECK(polzaintu_survey_row(&walk.wall.settings, walk.row, 6, &survey) == 0);
+        go(&walk, &file, 1);
+    }
+    CHECK(survey.row == walk.wall.settings.rows);
+    CHECK(survey.gap == 36 && survey.largest == 2 * 80 + 8 * 12 + 1);
+}
+
+/* A step that is lent so much of the file fits no wall, and changes nothing. */
+static void unfit_part(struct walk walk, size_t part_len, size_t row_len, size_t next_len) {
     struct wall_file file = small_wall();
     const struct wall_file lent = file;
     const struct walk before = walk;
-    CHECK(polzaintu_wall_step(&walk.wall, file.bytes, file.length, walk.row, row_len, walk.next,
+    CHECK(polzaintu_wall_step(&walk.wall, file.bytes, part_len, walk.row, row_len, walk.next,
                               next_len, &walk.offset) == POLZAINTU_UNFIT);
     CHECK(memcmp(&walk, &before, sizeof walk) == 0);
     CHECK(memcmp(file.bytes, lent.bytes, sizeof file.bytes) == 0);
+}
+
+static void unfit(struct walk walk, size_t row_len, size_t next_len) {
+    unfit_part(walk, polzaintu_wall_due(&walk.wall), row_len, next_len);
+    unfit_part(walk, 0, row_len, next_len);
+}
+
+/* A part longer than is due, at every stage but the last. */
+static void longer_parts(void) {
+    struct wall_file file = small_wall();
+    for (size_t steps = 0; steps <= 5; steps++) {
+        struct walk walk = begin();
+        go(&walk, &file, steps);
+        unfit_part(walk, polzaintu_wall_due(&walk.wall) + 1, 6, 6);
+        unfit_part(walk, file.length, 6, 6);
+    }
 }
 
 static void unfit_rows(void) {
@@ -128,14 +159,32 @@ static void unfit_walls(void) {
     }
 }
 
-/* Nothing is taken of a file that is over, whatever is lent. */
-static void over(void) {
+/* Stages that no file comes to: one past all, and a refusal without a number. */
+static void unfit_stages(void) {
+    struct walk walk = begin();
+    walk.wall.stage = 6;
+    unfit(walk, 6, 6);
+    walk.wall.stage = UINT64_MAX;
+    unfit(walk, 6, 6);
+    walk.wall.stage = POLZAINTU_REFUSED;
+    unfit(walk, 6, 6);
+    walk.wall.row = POLZAINTU_UNFIT;
+    unfit(walk, 6, 6);
+    walk.wall.row = UINT64_C(1) << 32;
+    unfit(walk, 6, 6);
+}
+
+/* A step of a file that has ended changes nothing, whatever rows are lent. */
+static void ended(void) {
     struct wall_file file = small_wall();
     struct walk walk = begin();
     go(&walk, &file, 5);
     const struct walk before = walk;
-    CHECK(polzaintu_wall_step(&walk.wall, file.bytes, file.length, walk.row, 0, walk.next, 0,
-                              &walk.offset) == 0);
+    CHECK(polzaintu_wall_step(&walk.wall, file.bytes, 0, walk.row, 0, walk.next, 0, &walk.offset) ==
+          0);
+    CHECK(memcmp(&walk, &before, sizeof walk) == 0);
+    CHECK(polzaintu_wall_step(&walk.wall, file.bytes, 0, walk.row, 6, walk.next, 6, &walk.offset) ==
+          0);
     CHECK(memcmp(&walk, &before, sizeof walk) == 0);
 }
 
@@ -161,8 +210,11 @@ void wall_tests(void) {
     accepted_wall();
     printed_seams();
     faulty_tile();
+    surveyed_wall();
     most_bytes();
     unfit_rows();
     unfit_walls();
-    over();
+    unfit_stages();
+    longer_parts();
+    ended();
 }

@@ -25,7 +25,7 @@ fn widest(input: impl Read) -> Result<Option<Widest>, Error> {
                 continue;
             };
             let wider = |w: &Widest| w.half_gap.abs() < half_gap.abs();
-            if widest.as_ref().is_none_or(wider) {
+            if widest.as_ref().map_or(true, wider) {
                 widest = Some(Widest {
                     row: row.number(),
                     left: found.left,

@@ -60,7 +60,41 @@ pub struct Range {
     pub last: u64,
 }
 
-/// How far a wall file has been taken.
+/// The columns of a seam.
+#[repr(C)]
+#[derive(Default)]
+pub struct Pair {
+    pub left: u64,
+    pub right: u64,
+}
+
+/// A broken tile, and how many rows below it a search looks.
+#[repr(C)]
+pub struct Broken {
+    pub gap: u64,
+    pub rows: u64,
+    pub column: u64,
+}
+
+/// A broken tile by its row, and a later row in which a search looks.
+#[repr(C)]
+pub struct BrokenInRow {
+    pub gap: u64,
+    pub row: u64,
+    pub later: u64,
+    pub column: u64,
+}
+
+/// The search range of a whole wall, row by row.
+#[repr(C)]
+#[derive(Clone, Debug, Default)]
+pub struct Survey {
+    pub row: u64,
+    pub gap: u64,
+    pub largest: u64,
+}
+
+/// How far a wall file has been taken. At stage 5 the row is the refusal's number.
 #[repr(C)]
 #[derive(Clone, Debug)]
 pub struct Wall {
@@ -77,6 +111,10 @@ const _: () = assert!(size_of::<Forwarded>() == 3 * 8);
 const _: () = assert!(size_of::<Ends>() == 2 * 8);
 const _: () = assert!(size_of::<Halves>() == 2 * 8);
 const _: () = assert!(size_of::<Range>() == 3 * 8);
+const _: () = assert!(size_of::<Pair>() == 2 * 8);
+const _: () = assert!(size_of::<Broken>() == 3 * 8);
+const _: () = assert!(size_of::<BrokenInRow>() == 4 * 8);
+const _: () = assert!(size_of::<Survey>() == 3 * 8);
 const _: () = assert!(size_of::<Wall>() == 10 * 8);
 
 extern "C" {
@@ -114,13 +152,44 @@ extern "C" {
         row_len: usize,
         gap: *mut u64,
     ) -> u32;
-    fn polzaintu_reach(
+    fn polzaintu_reach(settings: *const Limits, broken: *const Broken, range: *mut Range) -> u32;
+    fn polzaintu_reach_in_row(
         settings: *const Limits,
-        gap: u64,
-        rows: u64,
-        column: u64,
+        broken: *const BrokenInRow,
         range: *mut Range,
     ) -> u32;
+    fn polzaintu_survey_row(
+        settings: *const Limits,
+        row: *const u64,
+        row_len: usize,
+        survey: *mut Survey,
+    ) -> u32;
+    fn polzaintu_seam_columns(settings: *const Limits, seam: u64, columns: *mut Pair) -> u32;
+    fn polzaintu_row_seam(
+        settings: *const Limits,
+        times: *const u64,
+        times_len: usize,
+        marks: *const u8,
+        marks_len: usize,
+        seam: u64,
+        columns: *mut Pair,
+        side: *mut u32,
+        halves: *mut Halves,
+    ) -> u32;
+    fn polzaintu_mark(
+        settings: *const Limits,
+        marks: *const u8,
+        marks_len: usize,
+        column: u64,
+        faulty: *mut bool,
+    ) -> u32;
+    fn polzaintu_link_place(
+        settings: *const Limits,
+        tile: u64,
+        sender: u64,
+        place: *mut u64,
+    ) -> u32;
+    fn polzaintu_version() -> u32;
     fn polzaintu_wall_new(wall: *mut Wall);
     fn polzaintu_wall_due(wall: *const Wall) -> usize;
     fn polzaintu_wall_width(wall: *const Wall) -> usize;
@@ -194,9 +263,68 @@ pub fn widest_gap(settings: &Limits, row: &[u64], gap: &mut u64) -> u32 {
     unsafe { polzaintu_widest_gap(settings, row.as_ptr(), row.len(), gap) }
 }
 
-pub fn reach(settings: &Limits, gap: u64, rows: u64, column: u64, range: &mut Range) -> u32 {
-    // SAFETY: the settings are behind a reference; the range, which is written, is behind a `&mut`.
-    unsafe { polzaintu_reach(settings, gap, rows, column, range) }
+pub fn reach(settings: &Limits, broken: &Broken, range: &mut Range) -> u32 {
+    // SAFETY: each struct is behind a reference; the range, which is written, is behind a `&mut`.
+    unsafe { polzaintu_reach(settings, broken, range) }
+}
+
+pub fn reach_in_row(settings: &Limits, broken: &BrokenInRow, range: &mut Range) -> u32 {
+    // SAFETY: each struct is behind a reference; the range, which is written, is behind a `&mut`.
+    unsafe { polzaintu_reach_in_row(settings, broken, range) }
+}
+
+pub fn survey_row(settings: &Limits, row: &[u64], survey: &mut Survey) -> u32 {
+    // SAFETY: the row's pointer is a slice's, with its length; the survey, which is written, is
+    // behind a `&mut`.
+    unsafe { polzaintu_survey_row(settings, row.as_ptr(), row.len(), survey) }
+}
+
+pub fn seam_columns(settings: &Limits, seam: u64, columns: &mut Pair) -> u32 {
+    // SAFETY: the settings are behind a reference; the columns, which are written, are behind a
+    // `&mut`.
+    unsafe { polzaintu_seam_columns(settings, seam, columns) }
+}
+
+pub fn row_seam(
+    settings: &Limits,
+    times: &[u64],
+    marks: &[u8],
+    seam: u64,
+    columns: &mut Pair,
+    side: &mut u32,
+    halves: &mut Halves,
+) -> u32 {
+    // SAFETY: each pointer is a slice's, with that slice's length, or a reference's; the columns,
+    // the side and the halves, which are written, are each behind a `&mut`.
+    unsafe {
+        polzaintu_row_seam(
+            settings,
+            times.as_ptr(),
+            times.len(),
+            marks.as_ptr(),
+            marks.len(),
+            seam,
+            columns,
+            side,
+            halves,
+        )
+    }
+}
+
+pub fn mark(settings: &Limits, marks: &[u8], column: u64, faulty: &mut bool) -> u32 {
+    // SAFETY: the marks' pointer is a slice's, with its length; the `bool`, which is written with 0
+    // or 1, is behind a `&mut`.
+    unsafe { polzaintu_mark(settings, marks.as_ptr(), marks.len(), column, faulty) }
+}
+
+pub fn link_place(settings: &Limits, tile: u64, sender: u64, place: &mut u64) -> u32 {
+    // SAFETY: the settings are behind a reference; the place, which is written, is behind a `&mut`.
+    unsafe { polzaintu_link_place(settings, tile, sender, place) }
+}
+
+pub fn version() -> u32 {
+    // SAFETY: it is lent nothing.
+    unsafe { polzaintu_version() }
 }
 
 pub fn wall_new() -> Wall {

@@ -9,8 +9,11 @@
 //! - [`tile::forward`]: what one tile forwards.
 //! - [`row::plan`]: a row's pulse times, from the row before.
 //! - [`seam::join`]: the midpoint and half gap of two neighbouring tiles.
+//! - [`seam::row_seam`], [`row::marked`], [`row::link_place`]: where the seams, marks and links of a
+//!   row stand.
 //! - [`reach`]: how far one broken tile reaches.
-//! - [`wall::Reader`]: the rows and seams of a wall file; [`wall::Wall`] takes one step by step.
+//! - [`wall::Reader`]: the rows, the seams and the search range of a wall file; [`wall::Wall`] takes
+//!   one step by step.
 //!
 //! ```
 //! use polzaintu::row::{self, Lent};
@@ -42,6 +45,14 @@ pub mod seam;
 mod settings;
 pub mod tile;
 pub mod wall;
+mod words;
 
 pub use refusal::Refusal;
 pub use settings::{Limits, Settings};
+
+/// The version of the static library that is linked, as one number: (major × 1000 + minor) × 1000 +
+/// patch. It is that of this crate where both come from one tree.
+#[must_use]
+pub fn version() -> u32 {
+    ffi::version()
+}

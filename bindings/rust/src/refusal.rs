@@ -1,5 +1,6 @@
 //! The numbers under which calls and files are turned away.
 
+use crate::words;
 use std::error::Error;
 use std::fmt;
 
@@ -10,7 +11,7 @@ use std::fmt;
 ///
 /// let refusal = seam::join(Some(1 << 41), None).unwrap_err();
 /// assert_eq!(refusal.number(), 31);
-/// assert_eq!(refusal.to_string(), "refused 31: a correct tile's time over 2^41 - 1");
+/// assert_eq!(refusal.to_string(), "refused 31: a correct tile has a time above 2^41 - 1");
 /// ```
 #[derive(Clone, Copy, Debug, PartialEq, Eq, Hash)]
 pub struct Refusal(u32);
@@ -25,39 +26,15 @@ impl Refusal {
     }
 
     /// The number: 1 to 9, 11 to 13, 21 to 26, 31, or 41 to 45.
+    #[must_use]
     pub fn number(self) -> u32 {
         self.0
     }
 
-    /// When the number is given.
+    /// When the number is given, in the words of `docs/NUMBERS.md`.
+    #[must_use]
     pub fn condition(self) -> &'static str {
-        match self.0 {
-            1 => "W outside its range, 6 to 256",
-            2 => "R outside its range, 1 to 1,024",
-            3 => "d outside its range, 1 to 1,000,000",
-            4 => "u outside its range, 0 to d",
-            5 => "A outside its range, 1 to 1,000,000",
-            6 => "r outside its range, 0 to 10,000",
-            7 => "h outside its range, 1 to 62,500",
-            8 => "h below u + c + 2, where c is r × A / (1,000,000 + r) rounded up",
-            9 => "A below 16h",
-            11 => "count not 2 or 3",
-            12 => "a stamp over 2^41 - 1 that isn't silent",
-            13 => "two or more silent",
-            21 => "a wrong length",
-            22 => "a mark bit past the last column",
-            23 => "a correct tile's time over 2^40 - 1",
-            24 => "a tile with two faulty predecessors",
-            25 => "a drift over r",
-            26 => "a delay outside d - u to d, or a faulty arrival over 2^40 - 1 that isn't silent",
-            31 => "a correct tile's time over 2^41 - 1",
-            41 => "another tag than due",
-            42 => "another length than due",
-            43 => "the file ends inside or before a due field",
-            44 => "bytes after the last",
-            45 => "a row 0 time over 2^39 - 1",
-            _ => "a number that has no condition",
-        }
+        words::of(self.0)
     }
 }
 

@@ -10,18 +10,19 @@ pub const SILENT: u64 = ffi::SILENT;
 pub struct Lent<'a> {
     /// The W times of the row before, each up to 2^40 - 1. A faulty tile's is not read.
     pub before: &'a [u64],
-    /// Its fault marks, in [`Settings::mark_bytes`]: one bit a column, column 0 lowest in the first
-    /// byte.
+    /// Its fault marks, in [`Settings::mark_bytes`]: byte c / 8 has the mark of column c at bit
+    /// c % 8, the lowest being bit 0. [`marked`] reads them.
     pub marks: &'a [u8],
     /// The W drifts of the row's tiles, 0 to r.
     pub drifts: &'a [u32],
-    /// The [`Settings::link_values`], by tile and then by sender column. A correct sender's is the
-    /// delay, d - u to d; a faulty one's is the tick at which its pulse arrives, up to 2^40 - 1, or
+    /// The [`Settings::link_values`], tile after tile and, of each tile, sender after sender as
+    /// their columns rise; [`link_place`] finds one. That of a correct sender is the delay, d - u
+    /// to d; that of a faulty one is the tick at which its pulse arrives, up to 2^40 - 1, or
     /// [`SILENT`].
     ///
     /// A tile's senders are the tiles of the row before in its own column and that column's
-    /// neighbours. Columns are neighbours where they differ by 1, or are 0 and 2, or W - 3 and W -
-    /// 1.
+    /// neighbours. Columns c and c + 1 are neighbours; so are columns 0 and 2, and columns W - 3
+    /// and W - 1.
     pub links: &'a [u64],
 }
 
@@ -45,7 +46,7 @@ pub struct Ends {
 ///
 /// // Column 5 is faulty, and the three tiles that it sends to hear nothing of it.
 /// let mut links = [100; 20];
-/// for place in [13, 16, 19] {
+/// for place in (0..6).filter_map(|tile| row::link_place(&settings, tile, 5)) {
 ///     links[place] = SILENT;
 /// }
 /// let lent = Lent { before: &[1000; 6], marks: &[1 << 5], drifts: &[0; 6], links: &links };
@@ -75,4 +76,48 @@ pub fn plan(settings: &Settings, lent: Lent, times: &mut [u64]) -> Result<Ends, 
         earliest: ends.earliest,
         latest: ends.latest,
     })
+}
+
+/// Whether a column of a row is marked faulty, by the row's marks; or number 21. `None` where the
+/// row has no such column. Bits past the last column are not read.
+///
+/// ```
+/// use polzaintu::row::marked;
+/// # use polzaintu::{Limits, Settings};
+/// # let settings = Settings::new(Limits {
+/// #     width: 6, rows: 1, delay: 100, uncertainty: 10, hold: 400, drift: 0, unit: 12,
+/// # })?;
+///
+/// assert_eq!(marked(&settings, &[1 << 5], 5)?, Some(true));
+/// assert_eq!(marked(&settings, &[1 << 5], 6)?, None);
+/// # Ok::<(), polzaintu::Refusal>(())
+/// ```
+pub fn marked(settings: &Settings, marks: &[u8], column: usize) -> Result<Option<bool>, Refusal> {
+    let mut faulty = false;
+    match ffi::mark(settings.limits(), marks, column as u64, &mut faulty) {
+        ffi::UNFIT => Ok(None),
+        answer => Refusal::check(answer).map(|()| Some(faulty)),
+    }
+}
+
+/// The place, among the link values of a row, of the link from the sender's column to the tile's.
+/// `None` where the row has no such tile, or the tile no such sender.
+///
+/// ```
+/// use polzaintu::row::link_place;
+/// # use polzaintu::{Limits, Settings};
+/// # let settings = Settings::new(Limits {
+/// #     width: 6, rows: 1, delay: 100, uncertainty: 10, hold: 400, drift: 0, unit: 12,
+/// # })?;
+///
+/// assert_eq!(link_place(&settings, 2, 3), Some(9));
+/// assert_eq!(link_place(&settings, 2, 4), None);
+/// # Ok::<(), polzaintu::Refusal>(())
+/// ```
+#[must_use]
+pub fn link_place(settings: &Settings, tile: usize, sender: usize) -> Option<usize> {
+    let mut place = 0;
+    // The settings are checked, so an answer other than 0 is that there is no such link.
+    let answer = ffi::link_place(settings.limits(), tile as u64, sender as u64, &mut place);
+    (answer == 0).then_some(place as usize)
 }

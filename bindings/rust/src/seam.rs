@@ -1,6 +1,6 @@
 //! Seams: two neighbouring tiles of one row.
 
-use crate::{ffi, Refusal};
+use crate::{ffi, Refusal, Settings};
 
 /// A seam, closed where neither of its tiles is faulty.
 #[derive(Clone, Copy, Debug, PartialEq)]
@@ -48,24 +48,100 @@ pub fn join(left: Option<u64>, right: Option<u64>) -> Result<Seam, Refusal> {
         &mut side,
         &mut halves,
     ))?;
-    let ffi::Halves { midpoint, half_gap } = halves;
-    Ok(match side {
-        0 => Seam::Closed { midpoint, half_gap },
-        1 => Seam::Open(Side::Left),
-        2 => Seam::Open(Side::Right),
-        _ => Seam::Open(Side::Both),
-    })
+    Ok(Seam::read(side, halves))
 }
 
-/// The left and right columns of a row's seams, by left and then right: W + 1 of them.
+impl Seam {
+    fn read(side: u32, halves: ffi::Halves) -> Seam {
+        let ffi::Halves { midpoint, half_gap } = halves;
+        match side {
+            0 => Seam::Closed { midpoint, half_gap },
+            1 => Seam::Open(Side::Left),
+            2 => Seam::Open(Side::Right),
+            _ => Seam::Open(Side::Both),
+        }
+    }
+}
+
+/// A seam and the columns of its two tiles.
+#[derive(Clone, Copy, Debug, PartialEq)]
+pub struct RowSeam {
+    /// The column of the left tile.
+    pub left: usize,
+    /// The column of the right tile.
+    pub right: usize,
+    /// What the seam holds.
+    pub seam: Seam,
+}
+
+/// The left and right columns of a row's seam by its place, 0 to W, in the order of `wallrun`'s
+/// lines. `None` where the row has no such seam.
+#[must_use]
+pub fn columns(settings: &Settings, seam: usize) -> Option<(usize, usize)> {
+    let mut pair = ffi::Pair::default();
+    // The settings are checked, so an answer other than 0 is that there is no such seam.
+    let answer = ffi::seam_columns(settings.limits(), seam as u64, &mut pair);
+    (answer == 0).then_some((pair.left as usize, pair.right as usize))
+}
+
+/// The columns of all W + 1 seams of a row, in that order.
 ///
 /// ```
-/// let pairs: Vec<_> = polzaintu::seam::pairs(6).collect();
+/// # use polzaintu::{Limits, Settings};
+/// # let settings = Settings::new(Limits {
+/// #     width: 6, rows: 1, delay: 100, uncertainty: 10, hold: 400, drift: 0, unit: 12,
+/// # })?;
+/// let pairs: Vec<_> = polzaintu::seam::pairs(&settings).collect();
 /// assert_eq!(pairs, [(0, 1), (0, 2), (1, 2), (2, 3), (3, 4), (3, 5), (4, 5)]);
+/// # Ok::<(), polzaintu::Refusal>(())
 /// ```
-pub fn pairs(width: usize) -> impl Iterator<Item = (usize, usize)> {
-    let reach = move |left| if left == 0 || left + 3 == width { 2 } else { 1 };
-    (0..width)
-        .flat_map(move |left| (left + 1..=left + reach(left)).map(move |right| (left, right)))
-        .filter(move |&(_, right)| right < width)
+pub fn pairs(settings: &Settings) -> impl Iterator<Item = (usize, usize)> {
+    let settings = *settings;
+    (0..=settings.width()).map_while(move |seam| columns(&settings, seam))
+}
+
+/// A row's seam by its place, from the row's W times and its marks; or number 21 or 31. `None`
+/// where the row has no such seam.
+///
+/// ```
+/// use polzaintu::seam::{row_seam, RowSeam, Seam, Side};
+/// # use polzaintu::{Limits, Settings};
+/// # let settings = Settings::new(Limits {
+/// #     width: 6, rows: 1, delay: 100, uncertainty: 10, hold: 400, drift: 0, unit: 12,
+/// # })?;
+///
+/// let times = [1500, 1500, 1500, 1536, 1500, 1500];
+/// let seam = Seam::Closed { midpoint: 1518.0, half_gap: 18.0 };
+/// assert_eq!(row_seam(&settings, &times, &[0], 3)?, Some(RowSeam { left: 2, right: 3, seam }));
+/// let seam = Seam::Open(Side::Right);
+/// assert_eq!(row_seam(&settings, &times, &[8], 3)?, Some(RowSeam { left: 2, right: 3, seam }));
+/// # Ok::<(), polzaintu::Refusal>(())
+/// ```
+pub fn row_seam(
+    settings: &Settings,
+    times: &[u64],
+    marks: &[u8],
+    seam: usize,
+) -> Result<Option<RowSeam>, Refusal> {
+    let mut pair = ffi::Pair::default();
+    let mut side = 0;
+    let mut halves = ffi::Halves::default();
+    let answer = ffi::row_seam(
+        settings.limits(),
+        times,
+        marks,
+        seam as u64,
+        &mut pair,
+        &mut side,
+        &mut halves,
+    );
+    if answer == ffi::UNFIT {
+        return Ok(None);
+    }
+    Refusal::check(answer)?;
+    Ok(Some(RowSeam {
+        left: pair.left as usize,
+        right: pair.right as usize,
+        seam: Seam::read(side, halves),
+    }))
 }

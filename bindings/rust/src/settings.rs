@@ -46,22 +46,26 @@ impl Settings {
     }
 
     /// The seven numbers.
+    #[must_use]
     pub fn limits(&self) -> &Limits {
         &self.0
     }
 
     /// W, the times and the drifts of a row.
+    #[must_use]
     pub fn width(&self) -> usize {
         // At most 256.
         self.0.width as usize
     }
 
     /// The bytes of a row's fault marks: W / 8, rounded up.
+    #[must_use]
     pub fn mark_bytes(&self) -> usize {
         self.width().div_ceil(8)
     }
 
     /// The link values of a row: 3W + 2.
+    #[must_use]
     pub fn link_values(&self) -> usize {
         3 * self.width() + 2
     }

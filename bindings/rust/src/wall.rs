@@ -2,13 +2,16 @@
 //!
 //! `docs/FORMAT.md` has the format. The marks of a row come with the row after it, so a row is
 //! known, and its seams with it, once the next row is accepted; the last once the file has ended.
-//! Row 0 is given by the file itself and is not shown.
+//! Row 0 is given by the file itself and is not among the rows shown; [`Reader::start`] has it.
 
 mod reader;
+mod search;
 mod shown;
 
+pub use crate::seam::RowSeam;
 pub use reader::{Error, Reader};
-pub use shown::{Row, RowSeam};
+pub use search::{SearchError, SearchRange, Tile};
+pub use shown::Row;
 
 use crate::{ffi, Refusal, Settings};
 use std::{error, fmt, mem};
@@ -18,7 +21,8 @@ use std::{error, fmt, mem};
 pub struct Refused {
     /// Number 1 to 9, 22, 24 to 26, or 41 to 45.
     pub refusal: Refusal,
-    /// Where: the byte offset of the field's tag; for 44, of the first extra byte.
+    /// Where, in bytes from the start of the file: at the tag of the faulty field, or for 44 at the
+    /// first byte that is too many.
     pub offset: u64,
 }
 
@@ -52,8 +56,10 @@ pub enum Stage {
     Row,
     /// The end of the file.
     End,
-    /// Nothing: the file has ended, or is turned away.
-    Over,
+    /// Nothing: the file has ended rightly.
+    Ended,
+    /// Nothing: the file is turned away.
+    Refused,
 }
 
 /// A wall file on its way, taken step by step: the settings, row 0, each row and the end of the
@@ -71,6 +77,7 @@ impl Wall {
     pub const DUE_MOST: usize = 6_710;
 
     /// A file of which nothing is taken.
+    #[must_use]
     pub fn new() -> Wall {
         Wall {
             at: ffi::wall_new(),
@@ -80,31 +87,36 @@ impl Wall {
     }
 
     /// What is due next.
+    #[must_use]
     pub fn stage(&self) -> Stage {
         match self.at.stage {
             0 => Stage::Settings,
             1 => Stage::Start,
             2 => Stage::Row,
             3 => Stage::End,
-            _ => Stage::Over,
+            4 => Stage::Ended,
+            _ => Stage::Refused,
         }
     }
 
     /// How many bytes the next step is to be given; fewer only where the file ends before. 1 where
     /// the end of the file is due, 0 where nothing is.
+    #[must_use]
     pub fn due(&self) -> usize {
         ffi::wall_due(&self.at)
     }
 
     /// The file's settings, from when they are taken until the file is over.
+    #[must_use]
     pub fn settings(&self) -> Option<Settings> {
         match self.stage() {
-            Stage::Settings | Stage::Over => None,
-            _ => Settings::new(self.at.settings).ok(),
+            Stage::Start | Stage::Row | Stage::End => Settings::new(self.at.settings).ok(),
+            Stage::Settings | Stage::Ended | Stage::Refused => None,
         }
     }
 
     /// The number and the times of the last row accepted, row 0 included, until the file is over.
+    #[must_use]
     pub fn last_row(&self) -> Option<(u64, &[u64])> {
         match self.stage() {
             Stage::Row | Stage::End => Some((self.at.row, &self.row)),
@@ -113,8 +125,12 @@ impl Wall {
     }
 
     /// Takes the part of the file that is due, and answers the row that is then known: row L where
-    /// row L + 1 is accepted, and the last where the file has ended. A file that is over takes
-    /// nothing more.
+    /// row L + 1 is accepted, and the last where the file has ended. A file that has ended takes
+    /// nothing more; one that is turned away answers the same [`Refused`] again.
+    ///
+    /// # Panics
+    ///
+    /// Where the part is longer than [`Wall::due`] and the file is not turned away.
     ///
     /// ```
     /// use polzaintu::wall::{Stage, Wall};
@@ -123,17 +139,24 @@ impl Wall {
     /// assert_eq!(wall.due(), 27);
     /// wall.step(b"\x01\0\x18\0\x06\0\x01\0\0\0\x64\0\0\0\x0a\0\0\x01\x90\0\0\0\0\0\0\0\x0c")?;
     /// assert_eq!((wall.stage(), wall.due()), (Stage::Start, 3 + 8 * 6));
+    ///
+    /// let refused = wall.step(b"\x02").unwrap_err();
+    /// assert_eq!((refused.refusal.number(), refused.offset), (43, 27));
+    /// assert_eq!(wall.stage(), Stage::Refused);
+    /// assert_eq!(wall.step(&[]).unwrap_err(), refused);
     /// # Ok::<(), polzaintu::wall::Refused>(())
     /// ```
     pub fn step(&mut self, part: &[u8]) -> Result<Option<Row>, Refused> {
-        let (stage, number) = (self.stage(), self.at.row);
+        Ok(self.known(part)?.filter(|row| row.number() > 0))
+    }
+
+    /// The same, row 0 included.
+    fn known(&mut self, part: &[u8]) -> Result<Option<Row>, Refused> {
+        let (stage, number, settings) = (self.stage(), self.at.row, self.settings());
         let mut offset = 0;
         let answer = ffi::wall_step(&mut self.at, part, &self.row, &mut self.next, &mut offset);
-        assert_ne!(
-            answer,
-            ffi::UNFIT,
-            "both rows are W long, and steps alone write the wall"
-        );
+        // Both rows are W long, and steps alone write the wall.
+        assert_ne!(answer, ffi::UNFIT, "the part is longer than is due");
         Refusal::check(answer).map_err(|refusal| Refused { refusal, offset })?;
         match stage {
             Stage::Settings => {
@@ -142,13 +165,17 @@ impl Wall {
                 self.next = vec![0; width];
             }
             Stage::Start | Stage::Row => mem::swap(&mut self.row, &mut self.next),
-            Stage::End | Stage::Over => {}
+            Stage::End | Stage::Ended | Stage::Refused => {}
         }
         let marks = self.row.len().div_ceil(8);
-        Ok(match stage {
+        Ok(match (stage, settings) {
             // The row before is in `next` now, and its marks follow the three bytes of tag 3.
-            Stage::Row if number > 0 => Some(Row::new(number, &self.next, &part[3..3 + marks])),
-            Stage::End => Some(Row::new(number, &self.row, &[0; 32][..marks])),
+            (Stage::Row, Some(settings)) => {
+                Some(Row::new(settings, number, &self.next, &part[3..3 + marks]))
+            }
+            (Stage::End, Some(settings)) => {
+                Some(Row::new(settings, number, &self.row, &[0; 32][..marks]))
+            }
             _ => None,
         })
     }

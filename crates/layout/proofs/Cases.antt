@@ -8,8 +8,8 @@ use Rattle.tile.specs.Tile.{silent-at, reading-at, stamp-from, stamp-at, neighb
 use Rattle.columns.specs.Marks.{mark-bytes}
 use Rattle.contents.specs.Contents.{marks-field, row-size}
 use Rattle.stages.specs.Fit.{place, due-size, passes, due-of, width-of}
-use Rattle.layout.specs.Words.{settings-from, at-most, stamp-in, stamps-in, side-word, place-in, staged, wall-in, place-words, wall-words}
-use Rattle.layout.specs.Cases.{Refuses, Settings-cases, Stamps-cases, Side-cases, wall-settings, wall-place, staged-words, Wall-read-cases, Wall-written-cases, widest-words, Due-cases}
+use Rattle.layout.specs.Words.{settings-from, at-most, stamp-in, stamps-in, side-word, place-in, staged, wall-in, place-words, wall-words, refused-words, refused-number, takes}
+use Rattle.layout.specs.Cases.{Refuses, Settings-cases, Stamps-cases, Side-cases, wall-settings, wall-place, staged-words, Wall-read-cases, Wall-written-cases, Refused-cases, widest-words, Due-cases, Takes-cases}
 
 pub settings-cases : Settings-cases
 unfolding Settings-cases Refuses settings-from settings settings-refusal settings-tests first outside drift-cost up
@@ -31,6 +31,14 @@ pub wall-written-cases : Wall-written-cases
 unfolding Wall-written-cases wall-settings wall-place staged-words wall-words place-words
 wall-written-cases = (refl, refl, refl, refl, refl)
 
+pub refused-cases : Refused-cases
+unfolding Refused-cases wall-settings wall-place staged-words refused-words refused-number place-words place
+refused-cases = (refl, refl, refl, refl, refl, refl)
+
 pub due-cases : Due-cases
 unfolding Due-cases widest-words wall-in staged place-in settings-from settings place due-of width-of due-size passes settings-refusal settings-tests first outside drift-cost up row-size marks-field mark-bytes
-due-cases = (refl, refl, refl, refl, refl, refl, refl, refl)
+due-cases = (refl, refl, refl, refl, refl, refl, refl, refl, refl)
+
+pub takes-cases : Takes-cases
+unfolding Takes-cases takes widest-words wall-in staged place-in settings-from settings place due-of due-size passes settings-refusal settings-tests first outside drift-cost up row-size marks-field mark-bytes
+takes-cases = (refl, refl, refl, refl, refl, refl, refl, refl, refl)

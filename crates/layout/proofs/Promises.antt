@@ -1,12 +1,12 @@
 -- The proofs of what specs/Promises.antt states. Assumes nothing.
 use mathlib.Core.Path.{_≡_, refl, sym, _∙_}
-use mathlib.Core.Bool.{Bool, true, false}
-use mathlib.Core.List.{List}
+use mathlib.Core.Bool.{Bool, true, false, cond}
+use mathlib.Core.List.{List, [], _∷_}
 use Prim.Native.Nat.{ℕ, zero, suc, _≤_, _<_}
 use lib.Dec.{eqb, ltb}
 use lib.ListN.{getD}
 use native.Mathlib.Omega.{arith}
-use borrow.Author.Tests.{lt-ltb, le-ltb, ltb-false}
+use borrow.Author.Tests.{eqb-true, lt-ltb, le-ltb, ltb-false}
 use Rattle.settings.specs.Refusal.{outside}
 use Rattle.settings.specs.Settings.{settings}
 use Rattle.rule.specs.Signed.{natural}
@@ -15,8 +15,8 @@ use Rattle.tile.specs.Tile.{silent-at, reading-at, stamp-from, stamp-at, late-f
 use Rattle.settings.proofs.Laws.Cases.{by-order}
 use Rattle.stages.specs.Fit.{place}
 use Rattle.stages.specs.declared.Wall.the-variants.{New, Start, Row, End, Over}
-use Rattle.layout.specs.Words.{silent-word, first-late, at-most, stamp-in, stamps-in, settings-from, place-in, staged, wall-in, place-words, wall-words}
-use Rattle.layout.specs.Promises.{word-stamp, word-late, Stamps-read, Count-read, Walls-kept}
+use Rattle.layout.specs.Words.{unfit, silent-word, first-late, at-most, stamp-in, stamps-in, settings-from, place-in, staged, wall-in, place-words, wall-words, refused-words, refused-number}
+use Rattle.layout.specs.Promises.{word-stamp, word-late, Stamps-read, Count-read, Walls-kept, Walls-not-refused, Refusals-kept, Refusals-stay}
 
 -- what is taken as less is late all the same
 less-late : (n : ℕ) → ltb latest-stamp (at-most first-late n) ≡ ltb latest-stamp n
@@ -78,3 +78,48 @@ walls-kept (Start q) p = refl
 walls-kept (Row q) p = refl
 walls-kept (End q) p = refl
 walls-kept Over p = refl
+
+pub walls-not-refused : Walls-not-refused
+unfolding Walls-not-refused refused-number wall-words place-words
+walls-not-refused New p = refl
+walls-not-refused (Start q) p = refl
+walls-not-refused (Row q) p = refl
+walls-not-refused (End q) p = refl
+walls-not-refused Over p = refl
+
+pub refusals-kept : Refusals-kept
+unfolding Refusals-kept refused-number refused-words place-words place wall-in staged
+refusals-kept n at p few = record { same-number = rw (lt-ltb n unfit few); same-offset = refl; over = refl }
+
+-- ten words, of which the first is 5 and the ninth is a number
+again : (a b c d e f g h i j : ℕ) →
+    let ws = a ∷ b ∷ c ∷ d ∷ e ∷ f ∷ g ∷ h ∷ i ∷ j ∷ [] in
+    0 < refused-number ws → refused-words (refused-number ws) j (place-in ws) ≡ ws
+unfolding refused-number refused-words place-words place-in place settings-from settings
+again a b c d e f g h i j s = pick (eqb a 5) refl (ltb i unfit) refl s
+  where
+    number : (p q : Bool) → ℕ
+    number p q = cond p (cond q i 0) 0
+
+    words : (p q : Bool) → List ℕ
+    words p q = 5 ∷ b ∷ c ∷ d ∷ e ∷ f ∷ g ∷ h ∷ number p q ∷ j ∷ []
+
+    pick : (p : Bool) → eqb a 5 ≡ p → (q : Bool) → ltb i unfit ≡ q → 0 < number p q → words p q ≡ a ∷ b ∷ c ∷ d ∷ e ∷ f ∷ g ∷ h ∷ i ∷ j ∷ []
+    pick true x true y z = rw (eqb-true a 5 x)
+    pick true x false y z = let never : ⊥ = omega arith in absurd never
+    pick false x q y z = let never : ⊥ = omega arith in absurd never
+
+pub refusals-stay : Refusals-stay
+unfolding Refusals-stay
+refusals-stay (a ∷ b ∷ c ∷ d ∷ e ∷ f ∷ g ∷ h ∷ i ∷ j ∷ []) l s = again a b c d e f g h i j s
+refusals-stay [] l s = let never : ⊥ = omega arith in absurd never
+refusals-stay (a ∷ []) l s = let never : ⊥ = omega arith in absurd never
+refusals-stay (a ∷ b ∷ []) l s = let never : ⊥ = omega arith in absurd never
+refusals-stay (a ∷ b ∷ c ∷ []) l s = let never : ⊥ = omega arith in absurd never
+refusals-stay (a ∷ b ∷ c ∷ d ∷ []) l s = let never : ⊥ = omega arith in absurd never
+refusals-stay (a ∷ b ∷ c ∷ d ∷ e ∷ []) l s = let never : ⊥ = omega arith in absurd never
+refusals-stay (a ∷ b ∷ c ∷ d ∷ e ∷ f ∷ []) l s = let never : ⊥ = omega arith in absurd never
+refusals-stay (a ∷ b ∷ c ∷ d ∷ e ∷ f ∷ g ∷ []) l s = let never : ⊥ = omega arith in absurd never
+refusals-stay (a ∷ b ∷ c ∷ d ∷ e ∷ f ∷ g ∷ h ∷ []) l s = let never : ⊥ = omega arith in absurd never
+refusals-stay (a ∷ b ∷ c ∷ d ∷ e ∷ f ∷ g ∷ h ∷ i ∷ []) l s = let never : ⊥ = omega arith in absurd never
+refusals-stay (a ∷ b ∷ c ∷ d ∷ e ∷ f ∷ g ∷ h ∷ i ∷ j ∷ k ∷ ks) l s = let never : ⊥ = omega arith in absurd never

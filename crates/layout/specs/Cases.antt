@@ -1,6 +1,7 @@
 -- The words of each struct of bindings/c/polzaintu.h, at numbers, in the order of its fields. Each statement is proved in
 -- proofs/Cases.antt, under its name in small letters. Assumes nothing.
 use mathlib.Core.Path.{_≡_}
+use mathlib.Core.Bool.{true, false}
 use mathlib.Core.List.{List, [], _∷_}
 use Prim.Native.Nat.{ℕ}
 use Rattle.settings.specs.Settings.{settings-refusal}
@@ -11,7 +12,7 @@ use Rattle.seam.specs.declared.Side.the-variants.{Left, Right, Both}
 use Rattle.stages.specs.Fit.{due-of, width-of}
 use Rattle.stages.specs.declared.Place.{Place}
 use Rattle.stages.specs.declared.Wall.the-variants.{New, Start, Row, End, Over}
-use Rattle.layout.specs.Words.{settings-from, stamps-in, side-word, wall-in, wall-words}
+use Rattle.layout.specs.Words.{settings-from, stamps-in, side-word, wall-in, wall-words, refused-words, refused-number, takes}
 
 -- W, R, d, u, A, r, h: each word out of its range, alone, has its number; 8 and 9 are of h and A
 unfoldable pub Refuses : (w rows d u a r h number : ℕ) → Type 0
@@ -54,7 +55,7 @@ wall-place = record { settings = wall-settings; row = 18; offset = 19 }
 unfoldable pub staged-words : (stage : ℕ) → List ℕ
 staged-words n = n ∷ 11 ∷ 12 ∷ 13 ∷ 14 ∷ 15 ∷ 16 ∷ 17 ∷ 18 ∷ 19 ∷ []
 
--- POLZAINTU_SETTINGS_DUE, _START_DUE, _ROW_DUE, _END_DUE and POLZAINTU_OVER, as they are read and as they are written
+-- POLZAINTU_SETTINGS_DUE, _START_DUE, _ROW_DUE, _END_DUE and POLZAINTU_ENDED, as they are read and as they are written
 unfoldable pub Wall-read-cases : Type 0
 Wall-read-cases =
     (wall-in (staged-words 0) ≡ New)
@@ -71,6 +72,16 @@ Wall-written-cases =
     × (wall-words (End wall-place) wall-place ≡ staged-words 3)
     × (wall-words Over wall-place ≡ staged-words 4)
 
+-- POLZAINTU_REFUSED: number 43 at offset 27, and what is read of it; an ended file is no refusal, nor are words that no step leaves
+unfoldable pub Refused-cases : Type 0
+Refused-cases =
+    (refused-words 43 27 wall-place ≡ 5 ∷ 11 ∷ 12 ∷ 13 ∷ 14 ∷ 15 ∷ 16 ∷ 17 ∷ 43 ∷ 27 ∷ [])
+    × (refused-number (refused-words 43 27 wall-place) ≡ 43)
+    × (refused-number (staged-words 4) ≡ 0)
+    × (refused-number (staged-words 6) ≡ 0)
+    × (refused-number (refused-words 4294967294 27 wall-place) ≡ 4294967294)
+    × (refused-number (refused-words 4294967295 27 wall-place) ≡ 0)
+
 -- what is due of a wall by its words, and W: the settings, row 0, the next row (POLZAINTU_DUE_MOST of the widest), one byte to see the end
 unfoldable pub widest-words : (stage : ℕ) → List ℕ
 widest-words n = n ∷ 256 ∷ 1024 ∷ 100 ∷ 10 ∷ 400 ∷ 0 ∷ 12 ∷ 1 ∷ 2078 ∷ []
@@ -85,3 +96,17 @@ Due-cases =
     × (width-of (wall-in (widest-words 0)) ≡ 0)
     × (width-of (wall-in (widest-words 1)) ≡ 256)
     × (width-of (wall-in (widest-words 4)) ≡ 0)
+    × (due-of (wall-in (widest-words 5)) ≡ 0)
+
+-- a part as long as is due or shorter; not a longer one, and none past the stages of a wall
+unfoldable pub Takes-cases : Type 0
+Takes-cases =
+    (takes (widest-words 0) 27 ≡ true)
+    × (takes (widest-words 0) 28 ≡ false)
+    × (takes (widest-words 2) 6710 ≡ true)
+    × (takes (widest-words 2) 6711 ≡ false)
+    × (takes (widest-words 3) 2 ≡ false)
+    × (takes (widest-words 4) 0 ≡ true)
+    × (takes (widest-words 4) 1 ≡ false)
+    × (takes (widest-words 5) 0 ≡ false)
+    × (takes (widest-words 6) 0 ≡ false)

@@ -5,13 +5,14 @@ use mathlib.Core.Bool.{Bool, false, cond, not, _&&_}
 use mathlib.Core.List.{List}
 use Prim.Native.Nat.{ℕ, _≤_, _<_}
 use lib.Dec.{eqb, ltb}
-use lib.ListN.{getD}
+use lib.ListN.{length, getD}
 use Rattle.settings.specs.Refusal.{outside}
 use Rattle.rule.specs.Stamp.{Stamp, heard, silent, latest-stamp}
 use Rattle.tile.specs.Tile.{stamp-at, late-at}
 use Rattle.stages.specs.declared.Place.{Place}
 use Rattle.stages.specs.declared.Wall.{Wall}
-use Rattle.layout.specs.Words.{silent-word, stamps-in, wall-in, wall-words}
+use Rattle.stages.specs.declared.Wall.the-variants.{Over}
+use Rattle.layout.specs.Words.{unfit, silent-word, stamps-in, place-in, wall-in, wall-words, refused-words, refused-number}
 
 -- a word as a stamp: "2^64 - 1 is silent", and "a stamp over 2^41 - 1 that isn't silent" is 12
 unfoldable pub word-stamp : (word : ℕ) → Stamp
@@ -34,3 +35,22 @@ Count-read =
 -- a wall's words are read as the wall that was written, so calls one after the other are steps of one file
 unfoldable pub Walls-kept : Type 0
 Walls-kept = (x : Wall) (p : Place) → wall-in (wall-words x p) ≡ x
+
+-- none of them is read as a refusal's
+unfoldable pub Walls-not-refused : Type 0
+Walls-not-refused = (x : Wall) (p : Place) → refused-number (wall-words x p) ≡ 0
+
+-- a refusal's words are read as that refusal, and as a wall of which nothing is due
+pub record Refusal-read (number offset : ℕ) (words : List ℕ) : Type 0 where
+  pub same-number : refused-number words ≡ number
+  pub same-offset : getD words 9 0 ≡ offset
+  pub over : wall-in words ≡ Over
+
+unfoldable pub Refusals-kept : Type 0
+Refusals-kept = (n at : ℕ) (p : Place) → n < unfit → Refusal-read n at (refused-words n at p)
+
+-- and written again they are the same
+unfoldable pub Refusals-stay : Type 0
+Refusals-stay =
+    (ws : List ℕ) → length ws ≡ 10 → 0 < refused-number ws →
+    refused-words (refused-number ws) (getD ws 9 0) (place-in ws) ≡ ws

@@ -1,8 +1,8 @@
 -- Structs as words, in the order of the header's fields. Assumes nothing.
-use mathlib.Core.Bool.{cond}
+use mathlib.Core.Bool.{Bool, cond, _&&_}
 use mathlib.Core.List.{List, [], _∷_}
 use Prim.Native.Nat.{ℕ, _+_}
-use lib.Dec.{eqb, ltb}
+use lib.Dec.{eqb, ltb, leb}
 use lib.IntN.{ℤ, pos}
 use lib.ListN.{getD}
 use Rattle.settings.specs.Settings.{settings}
@@ -10,10 +10,14 @@ use Rattle.settings.specs.declared.Settings.{Settings}
 use Rattle.tile.specs.declared.Stamps.{Stamps}
 use Rattle.seam.specs.declared.Side.{Side}
 use Rattle.seam.specs.declared.Side.the-variants.{Left, Right, Both}
-use Rattle.stages.specs.Fit.{place}
+use Rattle.stages.specs.Fit.{place, due-of}
 use Rattle.stages.specs.declared.Place.{Place}
 use Rattle.stages.specs.declared.Wall.{Wall}
 use Rattle.stages.specs.declared.Wall.the-variants.{New, Start, Row, End, Over}
+
+-- the number of what is unfit and has no number of its own
+abbrev pub unfit : ℕ
+unfit = 4294967295
 
 -- from the word k on: W, R, d, u, A, r, h
 unfoldable pub settings-from : (k : ℕ) → (words : List ℕ) → Settings
@@ -70,3 +74,15 @@ wall-words (Start q) p = place-words 1 q
 wall-words (Row q) p = place-words 2 q
 wall-words (End q) p = place-words 3 q
 wall-words Over p = place-words 4 p
+
+-- a file that is turned away: stage 5, with the number and the offset in place of the last row and the bytes taken
+unfoldable pub refused-words : (number offset : ℕ) → Place → List ℕ
+refused-words n at p = place-words 5 (place (p .settings) n at)
+
+-- that number; 0 where the words are not a refusal's, as no step leaves them
+unfoldable pub refused-number : (words : List ℕ) → ℕ
+refused-number ws = cond (eqb (getD ws 0 0) 5) (cond (ltb (getD ws 8 0) unfit) (getD ws 8 0) 0) 0
+
+-- a step can be taken: the words are a wall's, and the part is no longer than what is due
+unfoldable pub takes : (words : List ℕ) → (part : ℕ) → Bool
+takes ws n = leb (getD ws 0 0) 4 && leb n (due-of (wall-in ws))

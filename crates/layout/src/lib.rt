@@ -6,7 +6,10 @@ use stages::Wall;
 use tile::Stamps;
 ghost use mathlib.Core.Path.{_≡_};
 ghost use Prim.Native.Nat.{_≤_};
-ghost use Rattle.layout.specs.Words.{settings-from, at-most, stamp-in, stamps-in, side-word, place-in, staged, wall-in, place-words, wall-words};
+ghost use Rattle.layout.specs.Words.{settings-from, at-most, stamp-in, stamps-in, side-word, place-in, staged, wall-in, place-words, wall-words, refused-words, refused-number, takes};
+
+// The number of what does not fit and has no number of its own.
+pub const UNFIT: u32 = 4_294_967_295;
 
 pub fn settings_in(words: &[u64; 7]) -> Settings
     ensures { λ r. ⌜ r ≡ settings-from 0 (now (words .entry)) ⌝ }
@@ -109,6 +112,30 @@ fn staged(stage: u64, place: Place) -> Wall
     }
 }
 
+// Whether a step can be taken: the words are a wall's, and the part is no longer than what is due.
+pub fn takes(words: &[u64; 10], part: usize) -> bool
+    ensures { λ r. ⌜ r ≡ takes (now (words .entry)) part ⌝ }
+{
+    if 4 < words[0] {
+        return false;
+    }
+    let wall = wall_in(words);
+    part <= wall.due()
+}
+
+// The number of a file that is turned away; 0 where the words are not such a file's.
+pub fn refused_number(words: &[u64; 10]) -> u32
+    ensures { λ r. ⌜ r ≡ refused-number (now (words .entry)) ⌝ }
+{
+    if words[0] != 5 {
+        return 0;
+    }
+    if UNFIT as u64 <= words[8] {
+        return 0;
+    }
+    words[8] as u32
+}
+
 // The place is that of a wall that has none.
 pub fn wall_words(wall: Wall, place: Place) -> [u64; 10]
     ensures { λ r. ⌜ r ≡ wall-words wall place ⌝ }
@@ -120,6 +147,21 @@ pub fn wall_words(wall: Wall, place: Place) -> [u64; 10]
         Wall::End(next) => place_words(3, next),
         Wall::Over => place_words(4, place),
     }
+}
+
+// A file that is turned away; the place is the last that it had.
+pub fn refused_words(number: u32, offset: u64, place: Place) -> [u64; 10]
+    ensures { λ r. ⌜ r ≡ refused-words number offset place ⌝ }
+{
+    let settings = place.settings;
+    place_words(
+        5,
+        Place {
+            settings,
+            row: number as u64,
+            offset,
+        },
+    )
 }
 
 fn place_words(stage: u64, place: Place) -> [u64; 10]

@@ -1,33 +1,28 @@
 // The operations for C and for Rust, as bindings/c/polzaintu.h declares them. A struct of the header is an
 // array of words here. The answer is the refusal's number, or 0; what is lent to be written then holds what
 // it held.
-use layout::place_in;
+use layout::UNFIT;
 use layout::settings_in;
 use layout::stamps_in;
 use layout::wall_in;
-use layout::wall_words;
-use reach::Gap;
-use reach::Reached;
-use row::Planned;
-use seam::Seam;
-use steps::Answer;
-use tile::Forwarded;
+use reach::survey::Surveyed;
 ghost use mathlib.Core.Path.{_≡_};
-ghost use lib.ListN.{length, replicate};
+ghost use lib.ListN.{length, replicate, getD};
 ghost use Rattle.settings.specs.Settings.{settings-refusal};
 ghost use Rattle.tile.specs.Tile.{forwarded, number-of as Tile·number-of};
 ghost use Rattle.admission.specs.Call.{call};
 ghost use Rattle.row.specs.Row.{planned, written, number-of as Row·number-of};
 ghost use Rattle.seam.specs.Seam.{seam-of, number-of as Seam·number-of};
-ghost use Rattle.reach.specs.Search.{gap-of, reach-of};
+ghost use Rattle.reach.specs.Search.{gap-of, reach-of, reach-in-row};
+ghost use Rattle.reach.specs.Survey.{surveyed-of};
 ghost use Rattle.reach.specs.Answers.{gap-number};
 ghost use Rattle.stages.specs.Fit.{due-of, width-of};
-ghost use Rattle.steps.specs.Take.{answer-of, row-after};
+ghost use Rattle.places.specs.Seams.{columns-of, seam-at};
+ghost use Rattle.places.specs.Marks.{mark-of};
+ghost use Rattle.places.specs.Links.{link-of};
 ghost use Rattle.layout.specs.Words.{settings-from, stamps-in, wall-in};
-ghost use Rattle.polzaintu.specs.Answers.{forwarded-left, ends-left, side-left, halves-left, gap-left, reach-number, reach-left, step-number, wall-left, offset-left};
-
-// The number of what does not fit and has no number of its own.
-const UNFIT: u32 = 4_294_967_295;
+ghost use Rattle.calls.specs.Answers.{forwarded-left, ends-left, side-left, halves-left, gap-left, reach-number, reach-left, survey-number, survey-left, columns-number, columns-left, row-seam-number, row-seam-columns, row-seam-side, row-seam-halves, mark-number, mark-left, link-number, link-left};
+ghost use Rattle.wall_calls.specs.Answers.{step-answer, next-left, step-number, wall-left, offset-left};
 
 #[no_mangle]
 pub extern "C" fn polzaintu_settings_refusal(settings: &[u64; 7]) -> u32
@@ -46,17 +41,10 @@ pub extern "C" fn polzaintu_tile(
     ensures number { λ r. ⌜ r ≡ Tile·number-of (forwarded (settings-from 0 (now (settings .entry))) (stamps-in (now (stamps .entry)))) ⌝ }
     ensures answer { λ r. ⌜ now (answer .exit) ≡ forwarded-left (forwarded (settings-from 0 (now (settings .entry))) (stamps-in (now (stamps .entry)))) (now (answer .entry)) ⌝ }
 {
-    match tile::forward(settings_in(settings), stamps_in(stamps)) {
-        Forwarded::Corrected { p, correction } => {
-            *answer = [p, correction, 1];
-            0
-        }
-        Forwarded::Uncorrected { p } => {
-            *answer = [p, 0, 0];
-            0
-        }
-        Forwarded::Refused(number) => number,
-    }
+    calls::forwarded_left(
+        tile::forward(settings_in(settings), stamps_in(stamps)),
+        answer,
+    )
 }
 
 #[no_mangle]
@@ -73,13 +61,10 @@ pub extern "C" fn polzaintu_row(
     ensures times { λ r. ⌜ now (times .exit) ≡ written (settings-from 0 (now (settings .entry))) (now (before .entry)) (call (now (marks .entry)) (now (drifts .entry)) (now (links .entry)) (length (now (times .entry)))) (now (times .entry)) ⌝ }
     ensures ends { λ r. ⌜ now (ends .exit) ≡ ends-left (planned (settings-from 0 (now (settings .entry))) (now (before .entry)) (call (now (marks .entry)) (now (drifts .entry)) (now (links .entry)) (length (now (times .entry))))) (now (ends .entry)) ⌝ }
 {
-    match row::plan(settings_in(settings), before, marks, drifts, links, times) {
-        Planned::Row { earliest, latest } => {
-            *ends = [earliest, latest];
-            0
-        }
-        Planned::Refused(number) => number,
-    }
+    calls::ends_left(
+        row::plan(settings_in(settings), before, marks, drifts, links, times),
+        ends,
+    )
 }
 
 #[no_mangle]
@@ -95,18 +80,11 @@ pub extern "C" fn polzaintu_seam(
     ensures side { λ r. ⌜ now (side .exit) ≡ side-left (seam-of left «left_faulty» right «right_faulty») (now (side .entry)) ⌝ }
     ensures halves { λ r. ⌜ now (halves .exit) ≡ halves-left (seam-of left «left_faulty» right «right_faulty») (now (halves .entry)) ⌝ }
 {
-    match seam::join(left, left_faulty, right, right_faulty) {
-        Seam::Closed(made) => {
-            *side = 0;
-            *halves = [made.midpoint, made.half_gap];
-            0
-        }
-        Seam::Open(open) => {
-            *side = layout::side(open);
-            0
-        }
-        Seam::Refused(number) => number,
-    }
+    calls::seam_left(
+        seam::join(left, left_faulty, right, right_faulty),
+        side,
+        halves,
+    )
 }
 
 #[no_mangle]
@@ -114,34 +92,132 @@ pub extern "C" fn polzaintu_widest_gap(settings: &[u64; 7], row: &[u64], gap: &m
     ensures number { λ r. ⌜ r ≡ gap-number (gap-of (settings-from 0 (now (settings .entry))) (now (row .entry))) ⌝ }
     ensures gap { λ r. ⌜ now (gap .exit) ≡ gap-left (gap-of (settings-from 0 (now (settings .entry))) (now (row .entry))) (now (gap .entry)) ⌝ }
 {
-    match reach::widest_gap(settings_in(settings), row) {
-        Gap::Widest(widest) => {
-            *gap = widest;
+    calls::gap_left(reach::widest_gap(settings_in(settings), row), gap)
+}
+
+// `broken` is the gap, the rows and the column.
+#[no_mangle]
+pub extern "C" fn polzaintu_reach(
+    settings: &[u64; 7],
+    broken: &[u64; 3],
+    range: &mut [u64; 3],
+) -> u32
+    ensures number { λ r. ⌜ r ≡ reach-number (reach-of (settings-from 0 (now (settings .entry))) (getD (now (broken .entry)) 0 0) (getD (now (broken .entry)) 1 0) (getD (now (broken .entry)) 2 0)) ⌝ }
+    ensures range { λ r. ⌜ now (range .exit) ≡ reach-left (reach-of (settings-from 0 (now (settings .entry))) (getD (now (broken .entry)) 0 0) (getD (now (broken .entry)) 1 0) (getD (now (broken .entry)) 2 0)) (now (range .entry)) ⌝ }
+{
+    let reached = reach::reach(settings_in(settings), broken[0], broken[1], broken[2]);
+    calls::reach_left(reached, range)
+}
+
+// `broken` is the gap, the row, the later row and the column.
+#[no_mangle]
+pub extern "C" fn polzaintu_reach_in_row(
+    settings: &[u64; 7],
+    broken: &[u64; 4],
+    range: &mut [u64; 3],
+) -> u32
+    ensures number { λ r. ⌜ r ≡ reach-number (reach-in-row (settings-from 0 (now (settings .entry))) (getD (now (broken .entry)) 0 0) (getD (now (broken .entry)) 1 0) (getD (now (broken .entry)) 2 0) (getD (now (broken .entry)) 3 0)) ⌝ }
+    ensures range { λ r. ⌜ now (range .exit) ≡ reach-left (reach-in-row (settings-from 0 (now (settings .entry))) (getD (now (broken .entry)) 0 0) (getD (now (broken .entry)) 1 0) (getD (now (broken .entry)) 2 0) (getD (now (broken .entry)) 3 0)) (now (range .entry)) ⌝ }
+{
+    let reached = reach::reach_in_row(
+        settings_in(settings),
+        broken[0],
+        broken[1],
+        broken[2],
+        broken[3],
+    );
+    calls::reach_left(reached, range)
+}
+
+// `survey` is the row that is due, B of the last one surveyed and the largest reach.
+#[no_mangle]
+pub extern "C" fn polzaintu_survey_row(
+    settings: &[u64; 7],
+    row: &[u64],
+    survey: &mut [u64; 3],
+) -> u32
+    ensures number { λ r. ⌜ r ≡ survey-number (surveyed-of (settings-from 0 (now (settings .entry))) (getD (now (survey .entry)) 0 0) (getD (now (survey .entry)) 2 0) (now (row .entry))) ⌝ }
+    ensures survey { λ r. ⌜ now (survey .exit) ≡ survey-left (surveyed-of (settings-from 0 (now (settings .entry))) (getD (now (survey .entry)) 0 0) (getD (now (survey .entry)) 2 0) (now (row .entry))) (now (survey .entry)) ⌝ }
+{
+    let due = survey[0];
+    match reach::survey::survey(settings_in(settings), due, survey[2], row) {
+        Surveyed::Row { gap, largest } => {
+            *survey = [due + 1, gap, largest];
             0
         }
-        Gap::Refused(number) => number,
+        Surveyed::Outside => UNFIT,
+        Surveyed::Refused(number) => number,
     }
 }
 
 #[no_mangle]
-pub extern "C" fn polzaintu_reach(
+pub extern "C" fn polzaintu_seam_columns(
     settings: &[u64; 7],
-    gap: u64,
-    rows: u64,
-    column: u64,
-    range: &mut [u64; 3],
+    seam: u64,
+    columns: &mut [u64; 2],
 ) -> u32
-    ensures number { λ r. ⌜ r ≡ reach-number (reach-of (settings-from 0 (now (settings .entry))) gap rows column) ⌝ }
-    ensures range { λ r. ⌜ now (range .exit) ≡ reach-left (reach-of (settings-from 0 (now (settings .entry))) gap rows column) (now (range .entry)) ⌝ }
+    ensures number { λ r. ⌜ r ≡ columns-number (columns-of (settings-from 0 (now (settings .entry))) seam) ⌝ }
+    ensures columns { λ r. ⌜ now (columns .exit) ≡ columns-left (columns-of (settings-from 0 (now (settings .entry))) seam) (now (columns .entry)) ⌝ }
 {
-    match reach::reach(settings_in(settings), gap, rows, column) {
-        Reached::Within(within) => {
-            *range = [within.ticks, within.first, within.last];
-            0
-        }
-        Reached::Outside => UNFIT,
-        Reached::Refused(number) => number,
-    }
+    calls::columns_left(
+        places::seams::columns_of(settings_in(settings), seam),
+        columns,
+    )
+}
+
+#[no_mangle]
+pub extern "C" fn polzaintu_row_seam(
+    settings: &[u64; 7],
+    times: &[u64],
+    marks: &[u8],
+    seam: u64,
+    columns: &mut [u64; 2],
+    side: &mut u32,
+    halves: &mut [f64; 2],
+) -> u32
+    ensures number { λ r. ⌜ r ≡ row-seam-number (seam-at (settings-from 0 (now (settings .entry))) (now (times .entry)) (now (marks .entry)) seam) ⌝ }
+    ensures columns { λ r. ⌜ now (columns .exit) ≡ row-seam-columns (seam-at (settings-from 0 (now (settings .entry))) (now (times .entry)) (now (marks .entry)) seam) (now (columns .entry)) ⌝ }
+    ensures side { λ r. ⌜ now (side .exit) ≡ row-seam-side (seam-at (settings-from 0 (now (settings .entry))) (now (times .entry)) (now (marks .entry)) seam) (now (side .entry)) ⌝ }
+    ensures halves { λ r. ⌜ now (halves .exit) ≡ row-seam-halves (seam-at (settings-from 0 (now (settings .entry))) (now (times .entry)) (now (marks .entry)) seam) (now (halves .entry)) ⌝ }
+{
+    calls::row_seam_left(
+        places::seams::row_seam(settings_in(settings), times, marks, seam),
+        columns,
+        side,
+        halves,
+    )
+}
+
+#[no_mangle]
+pub extern "C" fn polzaintu_mark(
+    settings: &[u64; 7],
+    marks: &[u8],
+    column: u64,
+    faulty: &mut bool,
+) -> u32
+    ensures number { λ r. ⌜ r ≡ mark-number (mark-of (settings-from 0 (now (settings .entry))) (now (marks .entry)) column) ⌝ }
+    ensures faulty { λ r. ⌜ now (faulty .exit) ≡ mark-left (mark-of (settings-from 0 (now (settings .entry))) (now (marks .entry)) column) (now (faulty .entry)) ⌝ }
+{
+    calls::mark_left(
+        places::marks::mark_of(settings_in(settings), marks, column),
+        faulty,
+    )
+}
+
+#[no_mangle]
+pub extern "C" fn polzaintu_link_place(
+    settings: &[u64; 7],
+    tile: u64,
+    sender: u64,
+    place: &mut u64,
+) -> u32
+    ensures number { λ r. ⌜ r ≡ link-number (link-of (settings-from 0 (now (settings .entry))) tile sender) ⌝ }
+    ensures place { λ r. ⌜ now (place .exit) ≡ link-left (link-of (settings-from 0 (now (settings .entry))) tile sender) (now (place .entry)) ⌝ }
+{
+    calls::link_left(
+        places::links::place_of(settings_in(settings), tile, sender),
+        place,
+    )
 }
 
 #[no_mangle]
@@ -175,22 +251,18 @@ pub extern "C" fn polzaintu_wall_step(
     next: &mut [u64],
     offset: &mut u64,
 ) -> u32
-    ensures number { λ r. ⌜ r ≡ step-number (answer-of (wall-in (now (wall .entry))) (now (part .entry)) (now (row .entry)) (length (now (next .entry)))) ⌝ }
-    ensures wall { λ r. ⌜ now (wall .exit) ≡ wall-left (answer-of (wall-in (now (wall .entry))) (now (part .entry)) (now (row .entry)) (length (now (next .entry)))) (now (wall .entry)) ⌝ }
-    ensures next { λ r. ⌜ now (next .exit) ≡ row-after (wall-in (now (wall .entry))) (now (part .entry)) (now (row .entry)) (now (next .entry)) ⌝ }
-    ensures offset { λ r. ⌜ now (offset .exit) ≡ offset-left (answer-of (wall-in (now (wall .entry))) (now (part .entry)) (now (row .entry)) (length (now (next .entry)))) (now (offset .entry)) ⌝ }
+    ensures number { λ r. ⌜ r ≡ step-number (step-answer (now (wall .entry)) (now (part .entry)) (now (row .entry)) (length (now (next .entry)))) ⌝ }
+    ensures wall { λ r. ⌜ now (wall .exit) ≡ wall-left (step-answer (now (wall .entry)) (now (part .entry)) (now (row .entry)) (length (now (next .entry)))) (now (wall .entry)) ⌝ }
+    ensures next { λ r. ⌜ now (next .exit) ≡ next-left (now (wall .entry)) (now (part .entry)) (now (row .entry)) (now (next .entry)) ⌝ }
+    ensures offset { λ r. ⌜ now (offset .exit) ≡ offset-left (step-answer (now (wall .entry)) (now (part .entry)) (now (row .entry)) (length (now (next .entry)))) (now (offset .entry)) ⌝ }
 {
-    let held = wall_in(wall);
-    match steps::take(held, part, row, next) {
-        Answer::Taken(taken) => {
-            let after = taken.wall;
-            *wall = wall_words(after, place_in(wall));
-            let number = taken.number;
-            if number != 0 {
-                *offset = taken.offset;
-            }
-            number
-        }
-        Answer::Unfit => UNFIT,
-    }
+    wall_calls::step(wall, part, row, next, offset)
+}
+
+// The version as one number.
+#[no_mangle]
+pub extern "C" fn polzaintu_version() -> u32
+    ensures { λ r. ⌜ r ≡ 2000 ⌝ }
+{
+    version::NUMBER
 }

@@ -1,6 +1,8 @@
 //! The rows of a wall file that is read.
 
-use super::{Refused, Row, Stage, Wall};
+use super::search::Search;
+use super::{Refused, Row, SearchError, SearchRange, Stage, Wall};
+use crate::Settings;
 use std::io::{self, Read};
 use std::iter::FusedIterator;
 use std::{error, fmt};
@@ -30,10 +32,14 @@ use std::{error, fmt};
 /// # Ok::<(), Error>(())
 /// ```
 #[derive(Debug)]
+#[must_use = "nothing is read before it is asked for"]
 pub struct Reader<R> {
     input: R,
     wall: Wall,
     part: Vec<u8>,
+    settings: Option<Settings>,
+    start: Option<Vec<u64>>,
+    search: Search,
     /// Whether an error has ended the file.
     failed: bool,
 }
@@ -54,16 +60,95 @@ impl<R: Read> Reader<R> {
             input,
             wall: Wall::new(),
             part: Vec::with_capacity(Wall::DUE_MOST),
+            settings: None,
+            start: None,
+            search: Search::default(),
             failed: false,
         }
     }
 
-    /// Takes one step.
+    /// The wall's settings. It reads as far as they are, where they are not read yet.
+    ///
+    /// ```
+    /// # use polzaintu::wall::{Error, Reader};
+    /// # let path = concat!(env!("CARGO_MANIFEST_DIR"), "/../../crates/wallrun/stdin");
+    /// # let file = std::fs::read(path)?;
+    /// let mut reader = Reader::new(&file[..]);
+    /// assert_eq!(reader.settings()?.width(), 6);
+    /// assert_eq!(reader.start()?, [1000, 1000, 1000, 1080, 1000, 1000]);
+    /// assert_eq!(reader.next().unwrap()?.number(), 1);
+    /// # Ok::<(), Error>(())
+    /// ```
+    pub fn settings(&mut self) -> Result<Settings, Error> {
+        loop {
+            if let Some(settings) = self.settings {
+                return Ok(settings);
+            }
+            self.step()?;
+        }
+    }
+
+    /// Row 0, W times. It reads as far as it is, where it is not read yet.
+    pub fn start(&mut self) -> Result<&[u64], Error> {
+        while self.start.is_none() {
+            self.step()?;
+        }
+        Ok(self.start.as_deref().unwrap_or_default())
+    }
+
+    /// Reads to the end of the file, and answers how far one broken tile of the wall can reach, as
+    /// `wallreach` prints it. A wall with a faulty tile has no search range.
+    ///
+    /// ```
+    /// use polzaintu::wall::{Reader, Tile};
+    /// # use polzaintu::wall::SearchError;
+    /// # let path = concat!(env!("CARGO_MANIFEST_DIR"), "/../../crates/wallrun/stdin");
+    /// # let file = std::fs::read(path).unwrap();
+    /// let range = Reader::new(&file[..]).search_range()?;
+    /// assert_eq!((range.largest(), range.gaps()), (256, &[80][..]));
+    /// assert_eq!(range.reach(Tile { row: 0, column: 3 }, 1).unwrap().columns, 2..=5);
+    /// # Ok::<(), SearchError>(())
+    /// ```
+    pub fn search_range(mut self) -> Result<SearchRange, SearchError> {
+        loop {
+            if let Some(faulty) = self.search.faulty() {
+                return Err(faulty);
+            }
+            if self.wall.stage() == Stage::Ended {
+                break;
+            }
+            self.step()?;
+        }
+        let settings = self.settings()?;
+        let range = self.search.range(settings);
+        Ok(range.expect("each row of a file that has ended is surveyed"))
+    }
+
+    /// Takes one step, and answers the row that is then known, row 0 included. After a failed read
+    /// no step is taken: bytes may be lost.
     fn step(&mut self) -> Result<Option<Row>, Error> {
+        if self.failed && self.wall.stage() != Stage::Refused {
+            return Err(io::Error::other("a read has failed before").into());
+        }
+        let known = self.take();
+        self.failed = known.is_err();
+        let known = known?;
+        if let Some(row) = &known {
+            self.search.row(row);
+        }
+        Ok(known)
+    }
+
+    fn take(&mut self) -> Result<Option<Row>, Error> {
         let due = self.wall.due() as u64;
         self.part.clear();
         self.input.by_ref().take(due).read_to_end(&mut self.part)?;
-        Ok(self.wall.step(&self.part)?)
+        let known = self.wall.known(&self.part)?;
+        self.settings = self.settings.or_else(|| self.wall.settings());
+        if let Some((0, times)) = self.wall.last_row() {
+            self.start = Some(times.to_vec());
+        }
+        Ok(known)
     }
 }
 
@@ -71,11 +156,11 @@ impl<R: Read> Iterator for Reader<R> {
     type Item = Result<Row, Error>;
 
     fn next(&mut self) -> Option<Self::Item> {
-        while !self.failed && self.wall.stage() != Stage::Over {
-            let known = self.step().transpose();
-            self.failed = matches!(known, Some(Err(_)));
-            if known.is_some() {
-                return known;
+        while !self.failed && self.wall.stage() != Stage::Ended {
+            match self.step() {
+                Ok(Some(row)) if row.number() > 0 => return Some(Ok(row)),
+                Ok(_) => {}
+                Err(error) => return Some(Err(error)),
             }
         }
         None

@@ -2,7 +2,7 @@
 //! print.
 
 use polzaintu::seam::{Seam, Side};
-use polzaintu::wall::{Error, Reader, Row, RowSeam};
+use polzaintu::wall::{Error, Reader, Row, RowSeam, Tile};
 use std::fs;
 use std::path::{Path, PathBuf};
 
@@ -75,4 +75,32 @@ fn example_wall() {
         lines(&example.join("stdin")),
         printed.lines().collect::<Vec<_>>()
     );
+}
+
+/// Each line that `wallreach` is expected to print of its wall.
+#[test]
+fn search_range() {
+    let program = repository().join("crates/wallreach");
+    let file = fs::read(program.join("stdin")).unwrap();
+    let range = Reader::new(&file[..]).search_range().unwrap();
+    let printed = read(program.join("stdout"));
+    let mut gaps = Vec::new();
+    for line in printed.lines() {
+        let words: Vec<_> = line.split(' ').collect();
+        let number = |place: usize| words[place].parse::<u64>().unwrap();
+        match words[0] {
+            "b" => gaps.push(number(2)),
+            "r" => {
+                let broken = Tile {
+                    row: number(1),
+                    column: 0,
+                };
+                let reach = range.reach(broken, number(2)).unwrap();
+                assert_eq!(reach.ticks, number(3), "{line}");
+            }
+            "largest" => assert_eq!(range.largest(), number(1)),
+            _ => panic!("{line}"),
+        }
+    }
+    assert_eq!(range.gaps(), gaps);
 }

@@ -3,6 +3,7 @@
 
 mod cases;
 mod common;
+mod places;
 mod reach;
 mod reader;
 mod refusal;

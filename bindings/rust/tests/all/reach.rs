@@ -1,10 +1,14 @@
 //! The reach of a broken tile: B of rows by hand, and ranges held against counted hops.
 
 use crate::common::{neighbours, settings, PRINTED};
-use polzaintu::reach::{reach, widest_gap, Reach};
+use polzaintu::reach::{reach, reach_in_row, widest_gap, Broken, BrokenInRow, Reach, Survey};
 use polzaintu::Limits;
 
 const GAP_MOST: u64 = (1 << 41) - 1;
+
+fn broken(gap: u64, rows: u64, column: usize) -> Broken {
+    Broken { gap, rows, column }
+}
 
 #[test]
 fn gaps_by_hand() {
@@ -51,7 +55,8 @@ fn ranges_are_the_columns_within_hops() {
         for column in 0..width {
             let hops = hops(width, column);
             for rows in 1..=width as u64 {
-                let Reach { ticks, columns } = reach(&settings, 1000, rows, column).unwrap();
+                let Reach { ticks, columns } =
+                    reach(&settings, broken(1000, rows, column)).unwrap();
                 assert_eq!(ticks, 2000 + 96 + (rows - 1));
                 for (c, &n) in hops.iter().enumerate() {
                     assert_eq!(
@@ -74,7 +79,7 @@ fn ranges_by_hand() {
     });
     let is = |gap, rows, column, ticks, columns| {
         assert_eq!(
-            reach(&settings, gap, rows, column),
+            reach(&settings, broken(gap, rows, column)),
             Some(Reach { ticks, columns })
         );
     };
@@ -92,7 +97,7 @@ fn ranges_by_hand() {
 #[test]
 fn outside_the_wall() {
     let settings = settings(PRINTED);
-    assert!(reach(&settings, GAP_MOST, 1, 5).is_some());
+    assert!(reach(&settings, broken(GAP_MOST, 1, 5)).is_some());
     for (gap, rows, column) in [
         (0, 0, 0),
         (0, 2, 0),
@@ -103,9 +108,59 @@ fn outside_the_wall() {
         (u64::MAX, 1, 0),
     ] {
         assert_eq!(
-            reach(&settings, gap, rows, column),
+            reach(&settings, broken(gap, rows, column)),
             None,
             "{gap} {rows} {column}"
         );
     }
+}
+
+/// In a later row the reach is that of as many rows below; a row up to the tile's own, or past R,
+/// has none.
+#[test]
+fn ranges_by_rows() {
+    let settings = settings(Limits { rows: 4, ..PRINTED });
+    for row in 0..6 {
+        for later in 0..6 {
+            let there = reach_in_row(
+                &settings,
+                BrokenInRow {
+                    gap: 60,
+                    row,
+                    later,
+                    column: 3,
+                },
+            );
+            let expected = match later.checked_sub(row) {
+                Some(rows) if later <= 4 => reach(&settings, broken(60, rows, 3)),
+                _ => None,
+            };
+            assert_eq!(there, expected, "{row} {later}");
+        }
+    }
+    let outside = |gap, column| BrokenInRow {
+        gap,
+        row: 0,
+        later: 1,
+        column,
+    };
+    assert!(reach_in_row(&settings, outside(GAP_MOST, 5)).is_some());
+    assert_eq!(reach_in_row(&settings, outside(GAP_MOST + 1, 5)), None);
+    assert_eq!(reach_in_row(&settings, outside(0, 6)), None);
+}
+
+#[test]
+fn surveys() {
+    let settings = settings(Limits { rows: 2, ..PRINTED });
+    let mut survey = Survey::new(&settings);
+    assert_eq!(survey.row(&[0; 5]).unwrap_err().number(), 21);
+    assert_eq!(survey.row(&[0, 0, 0, 0, 0, GAP_MOST + 1]), Ok(None));
+    assert_eq!((survey.due(), survey.largest()), (0, None));
+    assert_eq!(survey.row(&[0, 0, 0, 80, 0, 0]), Ok(Some(80)));
+    assert_eq!((survey.due(), survey.largest()), (1, None));
+    assert_eq!(survey.row(&[0, 0, 0, 36, 0, 0]), Ok(Some(36)));
+    // 2 * 80 + 8 * 12 + 1, two rows below row 0.
+    assert_eq!((survey.due(), survey.largest()), (2, Some(257)));
+    assert_eq!(survey.row(&[0; 6]), Ok(None));
+    assert_eq!((survey.due(), survey.largest()), (2, Some(257)));
 }

@@ -1,7 +1,9 @@
 //! The reader: bytes that come in pieces, and a read that fails, which is no refusal.
 
-use crate::common::{WallFile, LAST_TAG_4};
-use polzaintu::wall::{Error, Reader, Row};
+use crate::common::{settings, WallFile, LAST_TAG_4, TAG_2};
+use polzaintu::reach::{widest_gap, Survey};
+use polzaintu::row::SILENT;
+use polzaintu::wall::{Error, Reader, Row, SearchError, Tile};
 use std::io::{self, ErrorKind, Read};
 
 /// Gives a byte at a time and is interrupted before each. Where `fails`, it ends with an error.
@@ -82,4 +84,108 @@ fn a_refusal_ends_the_file() {
         other => panic!("{other:?}"),
     }
     assert!(reader.next().is_none());
+}
+
+/// The settings and row 0 can be asked for before the rows, after them, and in any order.
+#[test]
+fn settings_and_row_0() {
+    let file = WallFile::small();
+    let bytes = file.bytes();
+    let mut reader = Reader::new(&bytes[..]);
+    assert_eq!(reader.start().unwrap(), file.start);
+    assert_eq!(reader.settings().unwrap(), settings(file.limits));
+    let rows: Vec<_> = reader.by_ref().map(Result::unwrap).collect();
+    assert_eq!(rows.iter().map(Row::number).collect::<Vec<_>>(), [1, 2]);
+    assert!(rows
+        .iter()
+        .all(|row| *row.settings() == settings(file.limits)));
+    assert_eq!(reader.start().unwrap(), file.start);
+    assert_eq!(reader.settings().unwrap(), settings(file.limits));
+}
+
+#[test]
+fn settings_of_a_cut_file() {
+    let bytes = WallFile::small().bytes();
+    let number = |error| match error {
+        Error::Refused(refused) => (refused.refusal.number(), refused.offset as usize),
+        Error::Read(error) => panic!("{error}"),
+    };
+    let mut reader = Reader::new(&bytes[..TAG_2 + 9]);
+    assert!(reader.settings().is_ok());
+    for _ in 0..2 {
+        assert_eq!(number(reader.start().unwrap_err()), (43, TAG_2));
+        assert!(reader.settings().is_ok());
+    }
+    let mut reader = Reader::new(&bytes[..TAG_2 - 1]);
+    for _ in 0..2 {
+        assert_eq!(number(reader.settings().unwrap_err()), (43, 0));
+        assert_eq!(number(reader.start().unwrap_err()), (43, 0));
+    }
+    assert!(reader.next().is_none());
+
+    let mut reader = Reader::new(Halting::new(&bytes[..TAG_2 + 9], true));
+    for _ in 0..2 {
+        assert!(matches!(reader.start(), Err(Error::Read(_))));
+        assert!(reader.settings().is_ok());
+    }
+    assert!(reader.next().is_none());
+}
+
+fn tile(row: u64, column: usize) -> Tile {
+    Tile { row, column }
+}
+
+/// The search range is that of rows 0 to R - 1, whatever is read before it is asked for.
+#[test]
+fn search_ranges() {
+    let file = WallFile::small();
+    let bytes = file.bytes();
+    let settings = settings(file.limits);
+    let row_1 = Reader::new(&bytes[..]).next().unwrap().unwrap();
+    let rows = [&file.start[..], row_1.times()];
+    let mut survey = Survey::new(&settings);
+    for row in rows {
+        survey.row(row).unwrap();
+    }
+    for read in 0..4 {
+        let mut reader = Reader::new(&bytes[..]);
+        reader.by_ref().take(read).for_each(drop);
+        let range = reader.search_range().unwrap();
+        assert_eq!(
+            range.gaps(),
+            rows.map(|row| widest_gap(&settings, row).unwrap())
+        );
+        assert_eq!(Some(range.largest()), survey.largest());
+        assert_eq!(range.reach(tile(0, 3), 2).unwrap().ticks, 2 * 80 + 96 + 1);
+        assert_eq!(range.reach(tile(0, 3), 3), None);
+        assert_eq!(range.reach(tile(2, 3), 3), None);
+        assert_eq!(range.reach(tile(0, 6), 1), None);
+    }
+}
+
+#[test]
+fn search_ranges_of_other_files() {
+    for (place, row) in [(0, 0), (1, 1)] {
+        let mut file = WallFile::small();
+        file.rows[place].fault(3, SILENT);
+        let bytes = file.bytes();
+        match Reader::new(&bytes[..]).search_range() {
+            Err(SearchError::Faulty(found)) => assert_eq!(found, tile(row, 3)),
+            other => panic!("{other:?}"),
+        }
+    }
+    let bytes = WallFile::small().bytes();
+    match Reader::new(&bytes[..LAST_TAG_4]).search_range() {
+        Err(SearchError::File(Error::Refused(refused))) => {
+            assert_eq!(refused.refusal.number(), 43);
+        }
+        other => panic!("{other:?}"),
+    }
+    let longer = [&bytes[..], &[0]].concat();
+    match Reader::new(&longer[..]).search_range() {
+        Err(error) => assert!(error.to_string().starts_with("refused 44 at 436: ")),
+        other => panic!("{other:?}"),
+    }
+    let failed = Reader::new(Halting::new(&bytes, true)).search_range();
+    assert!(matches!(failed, Err(SearchError::File(Error::Read(_)))));
 }

@@ -19,13 +19,17 @@ fn step(wall: &mut Wall, bytes: &[u8], taken: &mut usize) -> Result<Option<Row>,
 /// The rows that a file shows, and the number and offset with which it ends, if it does.
 fn run(bytes: &[u8]) -> (Vec<Row>, Option<(u32, usize)>) {
     let (mut wall, mut taken, mut shown) = (Wall::new(), 0, Vec::new());
-    while wall.stage() != Stage::Over {
+    while wall.stage() != Stage::Ended {
         match step(&mut wall, bytes, &mut taken) {
             Ok(row) => shown.extend(row),
             Err(refused) => {
-                assert_eq!((wall.stage(), wall.due()), (Stage::Over, 0));
+                assert_eq!((wall.stage(), wall.due()), (Stage::Refused, 0));
                 assert!(wall.settings().is_none() && wall.last_row().is_none());
-                assert!(wall.step(bytes).unwrap().is_none());
+                for part in [&[], bytes] {
+                    let again = wall.step(part).unwrap_err();
+                    let (number, offset) = (again.refusal.number(), again.offset as usize);
+                    assert_eq!((number, offset), refused);
+                }
                 return (shown, Some(refused));
             }
         }
@@ -80,8 +84,27 @@ fn accepted_wall() {
         (shown.number(), shown.times(), shown.marks()),
         (2, &row_2[..], &[0][..])
     );
-    assert_eq!((wall.stage(), wall.due()), (Stage::Over, 0));
-    assert!(wall.step(&bytes).unwrap().is_none());
+    assert_eq!((wall.stage(), wall.due()), (Stage::Ended, 0));
+    assert!(wall.step(&[]).unwrap().is_none());
+    assert_eq!((wall.stage(), wall.due()), (Stage::Ended, 0));
+}
+
+#[test]
+#[should_panic = "longer than is due"]
+fn longer_part() {
+    let bytes = WallFile::small().bytes();
+    let _ = Wall::new().step(&bytes[..28]);
+}
+
+#[test]
+#[should_panic = "longer than is due"]
+fn byte_after_the_end() {
+    let bytes = WallFile::small().bytes();
+    let (mut wall, mut taken) = (Wall::new(), 0);
+    while wall.stage() != Stage::Ended {
+        step(&mut wall, &bytes, &mut taken).unwrap();
+    }
+    let _ = wall.step(&[0]);
 }
 
 /// A faulty tile's mark comes with the row after it.

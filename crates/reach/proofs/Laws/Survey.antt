@@ -1,19 +1,26 @@
 -- The largest reach over rows, and that each row of a wall is surveyed. Assumes nothing.
 use mathlib.Core.Path.{_≡_, refl, _∙_, ap}
-use mathlib.Core.Bool.{false}
+use mathlib.Core.Bool.{Bool, true, false, cond, not, _||_}
 use mathlib.Core.List.{List, [], _∷_}
 use Prim.Native.Nat.{ℕ, zero, suc, _+_, _-_, _≤_, _<_, max}
+use lib.Dec.{eqb, ltb}
 use lib.ListN.{length, getD, take}
 use native.Mathlib.Omega.{arith}
-use borrow.Author.Tests.{eq-eqb, le-ltb}
+use borrow.Author.Tests.{eq-eqb, eqb-true, eqb-false, le-ltb}
 use Rattle.settings.specs.Settings.{settings-refusal}
 use Rattle.rule.specs.Stamp.{latest-stamp}
 use Rattle.settings.specs.declared.Settings.{Settings}
 use Rattle.settings.proofs.Laws.Settings.{limits}
 use Rattle.runs.specs.Run.{row-at}
-use Rattle.runs.specs.Reach.{widest-gap}
+use Rattle.runs.specs.Reach.{widest-gap, reach-ticks}
+use Rattle.reach.specs.Span.{first-within, last-within}
 use Rattle.reach.specs.Search.{gap-of, reach-of, outside-wall}
 use Rattle.reach.specs.Survey.{with-reach, with-gap, surveyed-of, last-reach, largest-of}
+use Rattle.reach.specs.declared.Gap.{Gap}
+use Rattle.reach.specs.declared.Gap.the-variants as gap
+use Rattle.reach.specs.declared.Range.{Range}
+use Rattle.reach.specs.declared.Reached.{Reached}
+use Rattle.reach.specs.declared.Reached.the-variants as reached
 use Rattle.reach.specs.declared.survey.Surveyed.the-variants as surveyed
 use Rattle.reach.proofs.Laws.Gap.{gap-small}
 use Rattle.reach.proofs.Laws.Search.{by-gap}
@@ -30,6 +37,36 @@ module _ (s : Settings) (ok : settings-refusal s ≡ 0) where
       let inside : outside-wall s b (s .rows - l) 0 ≡ false =
       by-gap s b (s .rows - l) 0 (λ z. omega (arith, z, i)) (omega (arith, i)) (omega (arith, wide)) ∙ le-ltb latest-stamp b small in
       rw (eq-eqb (settings-refusal s) 0 ok, eq-eqb (length ts) w long, eq-eqb (settings-refusal s) 0 ok, inside)
+
+-- a row that is surveyed is one before the last
+module _ (s : Settings) (l m : ℕ) where
+  reached-later : (b : ℕ) (n : ℕ) (r : Range) → reach-of s b n 0 ≡ reached.Within r → (settings-refusal s ≡ 0) × (0 < n)
+  unfolding reach-of outside-wall
+  reached-later b n r e = go (eqb (settings-refusal s) 0) refl (eqb n 0) refl e
+    where
+      answer : (p q : Bool) → Reached
+      answer p q =
+          cond (not p) (reached.Refused (settings-refusal s))
+          (cond ((q || ltb (s .rows) n) || (not (ltb 0 (s .width)) || ltb latest-stamp b)) reached.Outside
+          (reached.Within (record { ticks = reach-ticks s b n; first = first-within (s .width) 0 n; last = last-within (s .width) 0 n })))
+
+      go : (p : Bool) → eqb (settings-refusal s) 0 ≡ p → (q : Bool) → eqb n 0 ≡ q → answer p q ≡ reached.Within r → (settings-refusal s ≡ 0) × (0 < n)
+      go true a false d z = let some : n ≡ 0 → ⊥ = eqb-false n 0 d in (eqb-true (settings-refusal s) 0 a, omega (arith, some))
+      go true a true d z = let never : _≡_ {A = ℕ} 0 1 = cc in absurd (omega arith)
+      go false a q d z = let never : _≡_ {A = ℕ} 0 1 = cc in absurd (omega arith)
+
+  pub surveyed-early : (ts : List ℕ) (b n : ℕ) → surveyed-of s l m ts ≡ surveyed.Row b n → (settings-refusal s ≡ 0) × (l < s .rows)
+  unfolding surveyed-of with-gap with-reach
+  surveyed-early ts b n e = by-gap-of (gap-of s ts) e
+    where
+      by-reach : (x : ℕ) (a : Reached) → reach-of s x (s .rows - l) 0 ≡ a → with-reach x m a ≡ surveyed.Row b n → (settings-refusal s ≡ 0) × (l < s .rows)
+      by-reach x (reached.Within r) d z = let (p, q) = reached-later x (s .rows - l) r d in (p, omega (arith, q))
+      by-reach x reached.Outside d z = let never : _≡_ {A = ℕ} 0 1 = cc in absurd (omega arith)
+      by-reach x (reached.Refused k) d z = let never : _≡_ {A = ℕ} 0 1 = cc in absurd (omega arith)
+
+      by-gap-of : (g : Gap) → with-gap s l m g ≡ surveyed.Row b n → (settings-refusal s ≡ 0) × (l < s .rows)
+      by-gap-of (gap.Widest x) z = by-reach x (reach-of s x (s .rows - l) 0) refl z
+      by-gap-of (gap.Refused k) z = let never : _≡_ {A = ℕ} 0 1 = cc in absurd (omega arith)
 
 -- the largest is no smaller than any
 module _ (s : Settings) where

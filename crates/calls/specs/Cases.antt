@@ -6,17 +6,20 @@ use mathlib.Core.List.{List, [], _∷_, map}
 use Prim.Native.Nat.{ℕ}
 use lib.IntN.{ℤ, pos, negsuc}
 use lib.Ieee.{Float, binary64, toBits}
-use lib.ListN.{replicate}
+use lib.ListN.{replicate, getD}
 use Rattle.settings.specs.declared.Settings.{Settings}
 use Rattle.tile.specs.Tile.{forwarded, number-of as tile-number}
 use Rattle.admission.specs.Call.{call}
 use Rattle.row.specs.Row.{planned, written, number-of as row-number}
 use Rattle.seam.specs.Seam.{seam-of, number-of as seam-number}
-use Rattle.reach.specs.Search.{gap-of, reach-of}
+use Rattle.reach.specs.Search.{gap-of, reach-of, reach-in-row}
+use Rattle.reach.specs.Survey.{surveyed-of}
 use Rattle.reach.specs.Answers.{gap-number}
-use Rattle.steps.specs.Take.{answer-of}
-use Rattle.layout.specs.Words.{settings-from, stamps-in, wall-in}
-use Rattle.polzaintu.specs.Answers.{forwarded-left, ends-left, side-left, halves-left, gap-left, reach-number, reach-left, step-number, wall-left, offset-left}
+use Rattle.places.specs.Seams.{columns-of, seam-at}
+use Rattle.places.specs.Marks.{mark-of}
+use Rattle.places.specs.Links.{link-of}
+use Rattle.layout.specs.Words.{settings-from, stamps-in}
+use Rattle.calls.specs.Answers.{forwarded-left, ends-left, side-left, halves-left, gap-left, reach-number, reach-left, survey-number, survey-left, columns-number, columns-left, row-seam-number, row-seam-columns, row-seam-side, row-seam-halves, mark-number, mark-left, link-number, link-left}
 
 -- W 6, R 1, d 100, u 10, A 400, r 0, h 12
 unfoldable pub wall-settings : Settings
@@ -93,29 +96,70 @@ Range-cases =
     × Range 80 2 3 4294967295 (7 ∷ 8 ∷ 9 ∷ [])
     × Range 80 1 6 4294967295 (7 ∷ 8 ∷ 9 ∷ [])
 
--- polzaintu_wall_step: the number, the wall and the offset
-unfoldable pub Step : (wall part row : List ℕ) → (next number : ℕ) → (wall-after : List ℕ) → (offset : ℕ) → Type 0
-Step ws part row next n after at =
-    (step-number (answer-of (wall-in ws) part row next) ≡ n)
-    × (wall-left (answer-of (wall-in ws) part row next) ws ≡ after)
-    × (offset-left (answer-of (wall-in ws) part row next) 7 ≡ at)
+-- polzaintu_reach_in_row: the same, by the row and the later row
+unfoldable pub Range-in-row : (gap row later column number : ℕ) → (range : List ℕ) → Type 0
+Range-in-row b f l k number r =
+    (reach-number (reach-in-row wall-settings b f l k) ≡ number)
+    × (reach-left (reach-in-row wall-settings b f l k) (7 ∷ 8 ∷ 9 ∷ []) ≡ r)
 
--- the settings of the printed wall, as tag 1 has them, and the wall's words at a stage
-unfoldable pub settings-field : List ℕ
-settings-field =
-    1 ∷ 0 ∷ 24 ∷ 0 ∷ 6 ∷ 0 ∷ 1 ∷ 0 ∷ 0 ∷ 0 ∷ 100 ∷ 0 ∷ 0 ∷ 0 ∷ 10 ∷ 0 ∷ 0 ∷ 1 ∷ 144 ∷ 0 ∷ 0 ∷ 0 ∷ 0 ∷ 0 ∷ 0 ∷ 0 ∷ 12 ∷ []
+unfoldable pub Range-in-row-cases : Type 0
+Range-in-row-cases =
+    Range-in-row 80 0 1 3 0 (256 ∷ 2 ∷ 5 ∷ []) × Range-in-row 80 1 1 3 4294967295 (7 ∷ 8 ∷ 9 ∷ [])
 
-unfoldable pub wall-at : (stage row offset : ℕ) → List ℕ
-wall-at n l at = n ∷ 6 ∷ 1 ∷ 100 ∷ 10 ∷ 400 ∷ 0 ∷ 12 ∷ l ∷ at ∷ []
+-- polzaintu_survey_row: the number, and the row that is due, B and the largest reach. Row 0 of the printed wall; no row is left then;
+-- a row of five
+unfoldable pub Survey : (row survey : List ℕ) → (number : ℕ) → (survey-after : List ℕ) → Type 0
+Survey ts held n after =
+    let a = surveyed-of wall-settings (getD held 0 0) (getD held 2 0) ts in
+    (survey-number a ≡ n) × (survey-left a held ≡ after)
 
--- settings taken; a file that ends too soon; row 0 taken; another tag than due, 27 bytes in; a row to be written of another length; the
--- end of the file; a byte after it
-unfoldable pub Step-cases : Type 0
-Step-cases =
-    Step (replicate 10 0) settings-field [] 0 0 (wall-at 1 0 27) 7
-    × Step (replicate 10 0) (1 ∷ 0 ∷ 24 ∷ []) [] 0 43 (4 ∷ replicate 9 0) 0
-    × Step (wall-at 1 0 27) (2 ∷ 0 ∷ 48 ∷ replicate 48 0) (replicate 6 0) 6 0 (wall-at 2 0 78) 7
-    × Step (wall-at 1 0 27) (3 ∷ 0 ∷ 48 ∷ []) (replicate 6 0) 6 41 (wall-at 4 0 27) 27
-    × Step (wall-at 1 0 27) (2 ∷ 0 ∷ 48 ∷ replicate 48 0) (replicate 6 0) 5 4294967295 (wall-at 1 0 27) 7
-    × Step (wall-at 3 1 257) [] (replicate 6 0) 6 0 (wall-at 4 1 257) 7
-    × Step (wall-at 3 1 257) (0 ∷ []) (replicate 6 0) 6 44 (wall-at 4 1 257) 257
+unfoldable pub Survey-cases : Type 0
+Survey-cases =
+    Survey row-0 (0 ∷ 0 ∷ 0 ∷ []) 0 (1 ∷ 80 ∷ 256 ∷ [])
+    × Survey row-0 (1 ∷ 80 ∷ 256 ∷ []) 4294967295 (1 ∷ 80 ∷ 256 ∷ [])
+    × Survey (replicate 5 0) (0 ∷ 0 ∷ 0 ∷ []) 21 (0 ∷ 0 ∷ 0 ∷ [])
+
+-- polzaintu_seam_columns: the number, and left and right. There are W + 1 seams
+unfoldable pub Seam-columns : (seam number : ℕ) → (columns : List ℕ) → Type 0
+Seam-columns i n cs =
+    (columns-number (columns-of wall-settings i) ≡ n) × (columns-left (columns-of wall-settings i) (7 ∷ 8 ∷ []) ≡ cs)
+
+unfoldable pub Seam-columns-cases : Type 0
+Seam-columns-cases =
+    Seam-columns 1 0 (0 ∷ 2 ∷ []) × Seam-columns 6 0 (4 ∷ 5 ∷ []) × Seam-columns 7 4294967295 (7 ∷ 8 ∷ [])
+
+-- polzaintu_row_seam, of row 1 of the printed wall: the number, the columns, the side, and the bits of midpoint and half gap. Closed;
+-- column 3 faulty; no such seam; two bytes of marks; a time of 2^41, which leaves the columns too
+unfoldable pub Row-seam : (times marks : List ℕ) → (seam number : ℕ) → (columns : List ℕ) → (side midpoint half-gap : ℕ) → Type 0
+Row-seam ts ms i n cs s m g =
+    let a = seam-at wall-settings ts ms i in
+    (row-seam-number a ≡ n)
+    × (row-seam-columns a (7 ∷ 8 ∷ []) ≡ cs)
+    × (row-seam-side a 9 ≡ s)
+    × (map (toBits binary64) (row-seam-halves a held-halves) ≡ m ∷ g ∷ [])
+
+unfoldable pub row-1 : (third : ℕ) → List ℕ
+row-1 t = 1500 ∷ 1500 ∷ 1500 ∷ t ∷ 1500 ∷ 1500 ∷ []
+
+unfoldable pub Row-seam-cases : Type 0
+Row-seam-cases =
+    Row-seam (row-1 1536) (0 ∷ []) 3 0 (2 ∷ 3 ∷ []) 0 0x4097_b800_0000_0000 0x4032_0000_0000_0000
+    × Row-seam (row-1 1536) (8 ∷ []) 3 0 (2 ∷ 3 ∷ []) 2 0x3ff8_0000_0000_0000 0x3fe0_0000_0000_0000
+    × Row-seam (row-1 1536) (0 ∷ []) 7 4294967295 (7 ∷ 8 ∷ []) 9 0x3ff8_0000_0000_0000 0x3fe0_0000_0000_0000
+    × Row-seam (row-1 1536) (0 ∷ 0 ∷ []) 3 21 (7 ∷ 8 ∷ []) 9 0x3ff8_0000_0000_0000 0x3fe0_0000_0000_0000
+    × Row-seam (row-1 2199023255552) (0 ∷ []) 3 31 (7 ∷ 8 ∷ []) 9 0x3ff8_0000_0000_0000 0x3fe0_0000_0000_0000
+
+-- polzaintu_mark: the number, and whether the column is marked; byte 8 marks column 3
+unfoldable pub Marked : (column : ℕ) (held : Bool) (number : ℕ) (faulty : Bool) → Type 0
+Marked c held n f =
+    (mark-number (mark-of wall-settings (8 ∷ []) c) ≡ n) × (mark-left (mark-of wall-settings (8 ∷ []) c) held ≡ f)
+
+unfoldable pub Mark-cases : Type 0
+Mark-cases = Marked 3 false 0 true × Marked 2 true 0 false × Marked 6 true 4294967295 true
+
+-- polzaintu_link_place: the number, and the place
+unfoldable pub Link-at : (tile sender number place : ℕ) → Type 0
+Link-at c k n at = (link-number (link-of wall-settings c k) ≡ n) × (link-left (link-of wall-settings c k) 7 ≡ at)
+
+unfoldable pub Link-cases : Type 0
+Link-cases = Link-at 2 3 0 9 × Link-at 5 5 0 19 × Link-at 2 4 4294967295 7

@@ -20,19 +20,15 @@ use Rattle.pulse.specs.Pulse.{arrives, arrival, read-at, stamp, pulse}
 use Rattle.row.specs.Row.{row-of, least-of, most-of, planned, written, number-of as row-number}
 use Rattle.runs.specs.Reach.{apart, widest, gap-below, widest-gap, reach-ticks}
 use Rattle.reach.specs.Span.{end-within, first-within, last-within}
-use Rattle.reach.specs.Search.{gap-of, outside-wall, reach-of}
-use Rattle.reach.specs.Answers.{gap-number, reached-number, reached-outside}
-use Rattle.fields.specs.Bytes.{big-endian}
-use Rattle.fields.specs.Field.{field-tests, field-refusal, body, or-else}
-use Rattle.contents.specs.Contents.{settings-in, times-in, late-start}
-use Rattle.stages.specs.Fit.{place, passes, place-fits, wall-fits}
-use Rattle.steps.specs.Number.{settings-number, start-number}
-use Rattle.steps.specs.Shown.{row-shown, number-shown, offset-shown}
-use Rattle.steps.specs.Step.{stepped, away, settings-step, start-step, end-step, step-of as wall-step}
-use Rattle.steps.specs.Take.{taken, taken-of, both-fit, answer-of}
-use Rattle.layout.specs.Words.{settings-from, at-most, stamp-in, stamps-in, side-word, place-in, staged, wall-in, place-words, wall-words}
-use Rattle.polzaintu.specs.Answers.{forwarded-left, ends-left, side-left, halves-left, gap-left, reach-number, reach-left, step-number, wall-left, offset-left}
-use Rattle.polzaintu.specs.Cases.{wall-settings, Tile, Tile-cases, row-0, Planned, Row-cases, held-halves, Seam, Seam-cases, Widest, Widest-cases, Range, Range-cases, Step, settings-field, wall-at, Step-cases}
+use Rattle.reach.specs.Search.{gap-of, outside-wall, reach-of, reach-in-row}
+use Rattle.reach.specs.Survey.{with-reach, with-gap, surveyed-of}
+use Rattle.reach.specs.Answers.{gap-number, reached-number, reached-outside, surveyed-number, surveyed-outside}
+use Rattle.places.specs.Seams.{seam-left, seam-right, columns-of, other-lengths, between, seam-at}
+use Rattle.places.specs.Marks.{mark-of}
+use Rattle.places.specs.Links.{hears, heard-at, link-of}
+use Rattle.layout.specs.Words.{settings-from, at-most, stamp-in, stamps-in, side-word}
+use Rattle.calls.specs.Answers.{forwarded-left, ends-left, side-left, halves-left, gap-left, reach-number, reach-left, survey-number, survey-left, columns-number, columns-left, row-seam-number, row-seam-columns, row-seam-side, row-seam-halves, mark-number, mark-left, link-number, link-left}
+use Rattle.calls.specs.Cases.{wall-settings, Tile, Tile-cases, row-0, Planned, Row-cases, held-halves, Seam, Seam-cases, Widest, Widest-cases, Range, Range-cases, Range-in-row, Range-in-row-cases, Survey, Survey-cases, Seam-columns, Seam-columns-cases, row-1, Row-seam, Row-seam-cases, Marked, Mark-cases, Link-at, Link-cases}
 
 pub tile-cases : Tile-cases
 unfolding Tile-cases Tile wall-settings settings-from settings settings-refusal settings-tests first outside drift-cost up stamps-in stamp-in at-most tile-number forwarded-left forwarded tile-refusal tile-tests stamp-tests any-below late-at late-from silences count-silent answered answer own-stamp neighbour-stamps neighbour-places stamp-at stamp-from silent-at reading-at natural P correction heard-correction D least-to larger-at larger smaller earliest latest earlier later step-of step
@@ -54,6 +50,26 @@ pub range-cases : Range-cases
 unfolding Range-cases Range wall-settings settings-from settings settings-refusal settings-tests first outside drift-cost up reach-number reached-number reached-outside reach-left reach-of outside-wall reach-ticks end-within first-within last-within
 range-cases = ((refl, refl), (refl, refl), (refl, refl))
 
-pub step-cases : Step-cases
-unfolding Step-cases Step settings-field wall-at wall-in staged place-in place-words wall-words settings-from settings place step-number wall-left offset-left answer-of both-fit taken-of taken wall-fits place-fits passes settings-refusal settings-tests first outside drift-cost up wall-step settings-step start-step end-step stepped away settings-number start-number field-refusal field-tests or-else body big-endian settings-in times-in late-start table-from any-below row-shown number-shown offset-shown
-step-cases = ((refl, refl, refl), (refl, refl, refl), (refl, refl, refl), (refl, refl, refl), (refl, refl, refl), (refl, refl, refl), (refl, refl, refl))
+pub range-in-row-cases : Range-in-row-cases
+unfolding Range-in-row-cases Range-in-row wall-settings settings-from settings settings-refusal settings-tests first outside drift-cost up reach-number reached-number reached-outside reach-left reach-in-row reach-of outside-wall reach-ticks end-within first-within last-within
+range-in-row-cases = ((refl, refl), (refl, refl))
+
+pub survey-cases : Survey-cases
+unfolding Survey-cases Survey row-0 wall-settings settings-from settings settings-refusal settings-tests first outside drift-cost up survey-number survey-left surveyed-number surveyed-outside surveyed-of with-gap with-reach gap-of widest-gap gap-below widest apart neighbours columns-from are-neighbours reach-of outside-wall reach-ticks end-within first-within last-within
+survey-cases = ((refl, refl), (refl, refl), (refl, refl))
+
+pub seam-columns-cases : Seam-columns-cases
+unfolding Seam-columns-cases Seam-columns wall-settings settings-from settings settings-refusal settings-tests first outside drift-cost up columns-number columns-left columns-of seam-left seam-right
+seam-columns-cases = ((refl, refl), (refl, refl), (refl, refl))
+
+pub row-seam-cases : Row-seam-cases
+unfolding Row-seam-cases Row-seam row-1 held-halves wall-settings settings-from settings settings-refusal settings-tests first outside drift-cost up row-seam-number row-seam-columns row-seam-side row-seam-halves seam-number side-left halves-left side-word seam-at other-lengths between seam-left seam-right mark-bytes marked seam-of late joined halves half toBits round
+row-seam-cases = ((refl, refl, refl, refl), (refl, refl, refl, refl), (refl, refl, refl, refl), (refl, refl, refl, refl), (refl, refl, refl, refl))
+
+pub mark-cases : Mark-cases
+unfolding Mark-cases Marked wall-settings settings-from settings settings-refusal settings-tests first outside drift-cost up mark-number mark-left mark-of mark-bytes marked
+mark-cases = ((refl, refl), (refl, refl), (refl, refl))
+
+pub link-cases : Link-cases
+unfolding Link-cases Link-at wall-settings settings-from settings settings-refusal settings-tests first outside drift-cost up link-number link-left link-of heard-at hears any-of predecessors columns-from is-predecessor are-neighbours link-place links-before place-of
+link-cases = ((refl, refl), (refl, refl), (refl, refl))

@@ -1,0 +1,5 @@
+pub mod Seams
+pub mod Marks
+pub mod Links
+pub mod Promises
+pub mod Cases
