@@ -1,4 +1,4 @@
-//! "Two runs side by side" and demand 3: how far one faulty tile can reach, and what the program
+//! Runs side by side (§11.6, §12.3): how far one faulty tile can reach, and what the program
 //! `wallreach` prints of a wall without faults.
 
 use std::io::{self, Write};

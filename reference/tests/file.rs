@@ -1,4 +1,4 @@
-//! The wall file: the wall that document 01 prints whole, and which refusal comes first where.
+//! The wall file: the wall of §14.4, printed whole, and which refusal comes first where.
 
 use wall_reference::file::FileRefused;
 use wall_reference::print::wallrun;

@@ -1,4 +1,4 @@
-//! What the papers claim of whole runs, tried on generated walls: a wave that starts later, and the
+//! What the requirements claim of whole runs, tried on generated walls: a wave that starts later, and the
 //! reach of one faulty tile.
 
 use wall_reference::generate::describe::Description;
@@ -117,7 +117,7 @@ fn largest(description: &Description) -> u64 {
     number.unwrap().parse().unwrap()
 }
 
-/// Runs the wall with one tile of row f faulty and checks each pulse of both runs against demand 3;
+/// Runs the wall with one tile of row f faulty and checks each pulse of both runs against §12.3;
 /// answers how many pulses it moved.
 fn check_reach(
     rng: &mut Rng,

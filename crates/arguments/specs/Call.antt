@@ -12,12 +12,12 @@ use Rattle.arguments.specs.declared.Call.{Call}
 use Rattle.arguments.specs.declared.Call.the-variants as call
 use Rattle.arguments.specs.Words.{word-of}
 
--- a name is the last word: what follows it is wrong
+-- §16.1 a name is the last word: what follows it is wrong
 unfoldable pub named : (i : ℕ) → (behind : List (List ℕ)) → Call
 named i [] = call.File i
 named i (w ∷ ws) = call.Wrong (suc i)
 
--- by the word at place i, with room for so many numbers: `on` is what the words behind it ask for. Help and version stand in front.
+-- §16.1 by the word at place i, with room for so many numbers: `on` is what the words behind it ask for. Help and version stand in front.
 unfoldable pub by-word : (room i : ℕ) → (behind : List (List ℕ)) → (on : Call) → Word → Call
 by-word room i ws on (word.Number n) = cond (ltb room i) (call.Wrong i) on
 by-word room i ws on word.Name = named i ws
@@ -25,14 +25,16 @@ by-word room i ws on word.Help = cond (eqb i 1) call.Help (call.Wrong i)
 by-word room i ws on word.Version = cond (eqb i 1) call.Version (call.Wrong i)
 by-word room i ws on word.Other = call.Wrong i
 
+-- §16.1 what the words from place i on ask for
 unfoldable pub call-from : (least largest room i : ℕ) → (words : List (List ℕ)) → Call
 call-from least largest room i [] = call.Input
 call-from least largest room i (w ∷ ws) = by-word room i ws (call-from least largest room (suc i) ws) (word-of least largest w)
 
+-- §16.1 what all words of a call ask for
 unfoldable pub call-of : (least largest room : ℕ) → (words : List (List ℕ)) → Call
 call-of least largest room ws = call-from least largest room 1 ws
 
--- the numbers in front, at most so many
+-- §16.1 a number stands in front of those behind it; any other word ends them
 unfoldable pub with-number : Word → (behind : List ℕ) → List ℕ
 with-number (word.Number n) ns = n ∷ ns
 with-number word.Name ns = []
@@ -40,17 +42,18 @@ with-number word.Help ns = []
 with-number word.Version ns = []
 with-number word.Other ns = []
 
+-- §16.1 the numbers in front, at most so many
 unfoldable pub numbers-in : (least largest room : ℕ) → (words : List (List ℕ)) → List ℕ
 numbers-in least largest zero ws = []
 numbers-in least largest (suc room) [] = []
 numbers-in least largest (suc room) (w ∷ ws) = with-number (word-of least largest w) (numbers-in least largest room ws)
 
--- what some word is; no contract can say which word an argument is
+-- §16.1 what some word is; no contract can say which word an argument is
 pub record Some-word (least largest : ℕ) (x : Word) : Type 0 where
   pub word : List ℕ
   pub is : x ≡ word-of least largest word
 
--- the answer for some words, and their numbers, written from the front
+-- §16.1 the answer for some words, and their numbers, written from the front
 pub record Called (least largest : ℕ) (before : List ℕ) (answer : Call) (after : List ℕ) : Type 0 where
   pub words : List (List ℕ)
   pub answered : answer ≡ call-of least largest (length before) words

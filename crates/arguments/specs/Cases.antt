@@ -11,11 +11,12 @@ use Rattle.arguments.specs.declared.Call.the-variants as call
 use Rattle.arguments.specs.Words.{word-of}
 use Rattle.arguments.specs.Call.{call-of, numbers-in}
 
--- words where numbers are rows, from 1 to 1,024
+-- §16.1 words where numbers are rows, from 1 to 1,024
 unfoldable pub words-are : List String → List Word
 words-are [] = []
 words-are (s ∷ ss) = word-of 1 1024 (codes s) ∷ words-are ss
 
+-- §16.1 numbers at and past each limit, and digits with zeros in front
 unfoldable pub Number-cases : Type 0
 Number-cases =
     (words-are ("1" ∷ "7" ∷ "007" ∷ "1024" ∷ []) ≡ word.Number 1 ∷ word.Number 7 ∷ word.Number 7 ∷ word.Number 1024 ∷ [])
@@ -24,28 +25,32 @@ Number-cases =
     × (word-of 0 4398046511104 (codes "4398046511104") ≡ word.Number 4398046511104)
     × (word-of 0 4398046511104 (codes "4398046511105") ≡ word.Other)
 
--- any other word names a file, unless it begins with `-`; `./` in front makes a name of any word
+-- §16.1 any other word names a file, unless it begins with `-`; `./` in front makes a name of any word
 unfoldable pub Name-cases : Type 0
 Name-cases =
     (words-are ("some.wall" ∷ "12a" ∷ " 1" ∷ "1e3" ∷ "./12" ∷ "./-x" ∷ []) ≡ word.Name ∷ word.Name ∷ word.Name ∷ word.Name ∷ word.Name ∷ word.Name ∷ [])
     × (words-are ("--help" ∷ "--version" ∷ []) ≡ word.Help ∷ word.Version ∷ [])
     × (words-are ("-" ∷ "--" ∷ "-h" ∷ "--hel" ∷ "--helpx" ∷ "--Version" ∷ []) ≡ word.Other ∷ word.Other ∷ word.Other ∷ word.Other ∷ word.Other ∷ word.Other ∷ [])
 
+-- §16.1 words as bytes
 unfoldable pub all-codes : List String → List (List ℕ)
 all-codes [] = []
 all-codes (s ∷ ss) = codes s ∷ all-codes ss
 
--- a call with room for 16 rows, and one with room for none
+-- §16.1 a call with room for 16 rows
 unfoldable pub with-rows : List String → Call
 with-rows ss = call-of 1 1024 16 (all-codes ss)
 
+-- §16.1 a call with room for no number
 unfoldable pub without : List String → Call
 without ss = call-of 0 0 0 (all-codes ss)
 
+-- §16.1 the same word so many times
 abbrev pub sevens : (n : ℕ) → List String
 sevens zero = []
 sevens (suc n) = "7" ∷ sevens n
 
+-- §16.1 what calls ask for
 unfoldable pub Call-cases : Type 0
 Call-cases =
     (with-rows [] ≡ call.Input)
@@ -58,7 +63,7 @@ Call-cases =
     × (with-rows ("--help" ∷ "3" ∷ []) ≡ call.Help)
     × (without ("--version" ∷ []) ≡ call.Version)
 
--- the place of the word that is wrong
+-- §16.1 the place of the word that is wrong
 unfoldable pub Wrong-cases : Type 0
 Wrong-cases =
     (with-rows (sevens 17) ≡ call.Wrong 17)
@@ -70,7 +75,7 @@ Wrong-cases =
     × (without ("some.wall" ∷ "other.wall" ∷ []) ≡ call.Wrong 2)
     × (without ("-x" ∷ []) ≡ call.Wrong 1)
 
--- the numbers in front, in their order
+-- §16.1 the numbers in front, in their order
 unfoldable pub Front-cases : Type 0
 Front-cases =
     (numbers-in 1 1024 16 (all-codes ("3" ∷ "1" ∷ "some.wall" ∷ [])) ≡ 3 ∷ 1 ∷ []) × (numbers-in 1 1024 1 (all-codes ("3" ∷ "1" ∷ [])) ≡ 3 ∷ [])

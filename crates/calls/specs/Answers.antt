@@ -31,100 +31,109 @@ use Rattle.places.specs.declared.links.Link.{Link}
 use Rattle.places.specs.declared.links.Link.the-variants as link
 use Rattle.layout.specs.Words.{unfit, side-word}
 
--- a tile's P, correction, and whether it has one
+-- §17.1 a tile's P, correction, and whether it has one
 unfoldable pub forwarded-left : Forwarded → (held : List ℤ) → List ℤ
 forwarded-left (forwarded.Corrected p c) held = p ∷ c ∷ pos 1 ∷ []
 forwarded-left (forwarded.Uncorrected p) held = p ∷ pos 0 ∷ pos 0 ∷ []
 forwarded-left (forwarded.Refused n) held = held
 
--- a row's earliest and latest time
+-- §17.1 a row's earliest and latest time
 unfoldable pub ends-left : Planned → (held : List ℕ) → List ℕ
 ends-left (planned.Row earliest latest) held = earliest ∷ latest ∷ []
 ends-left (planned.Refused n) held = held
 
--- a seam's side, 0 where it is closed, and its midpoint and half gap
+-- §17.1 a seam's side, 0 where it is closed
 unfoldable pub side-left : Seam → (held : ℕ) → ℕ
 side-left (seam.Closed h) held = 0
 side-left (seam.Open s) held = side-word s
 side-left (seam.Refused n) held = held
 
+-- §17.1 a closed seam's midpoint and half gap
 unfoldable pub halves-left : Seam → (held : List Float) → List Float
 halves-left (seam.Closed h) held = h .midpoint ∷ h .«half_gap» ∷ []
 halves-left (seam.Open s) held = held
 halves-left (seam.Refused n) held = held
 
--- B of a row
+-- §17.1 B of a row
 unfoldable pub gap-left : Gap → (held : ℕ) → ℕ
 gap-left (gap.Widest b) held = b
 gap-left (gap.Refused n) held = held
 
--- the ticks and columns that a broken tile reaches; what lies outside the wall is unfit
+-- §17.1 the number of a reach; what lies outside the wall is unfit
 unfoldable pub reach-number : Reached → ℕ
 reach-number a = cond (reached-outside a) unfit (reached-number a)
 
+-- §17.1 the ticks and columns that a broken tile reaches
 unfoldable pub reach-left : Reached → (held : List ℕ) → List ℕ
 reach-left (reached.Within r) held = r .ticks ∷ r .first ∷ r .last ∷ []
 reach-left reached.Outside held = held
 reach-left (reached.Refused n) held = held
 
--- a survey: the row that is due, B of the last row surveyed, and the largest reach; a row past the last but one is unfit
+-- §17.1 the number of a survey; a row past the last but one is unfit
 unfoldable pub survey-number : Surveyed → ℕ
 survey-number a = cond (surveyed-outside a) unfit (surveyed-number a)
 
+-- §17.1 the row that is due next, B of the one surveyed, and the largest reach
 unfoldable pub survey-left : Surveyed → (held : List ℕ) → List ℕ
 survey-left (surveyed.Row b m) held = (getD held 0 0 + 1) ∷ b ∷ m ∷ []
 survey-left surveyed.Outside held = held
 survey-left (surveyed.Refused n) held = held
 
--- a seam's columns by its place
+-- §17.4 the number for a seam's columns; a place past the last is unfit
 unfoldable pub columns-number : Columns → ℕ
 columns-number (columns.Of l r) = 0
 columns-number columns.Outside = unfit
 columns-number (columns.Refused n) = n
 
+-- §17.4 the columns
 unfoldable pub columns-left : Columns → (held : List ℕ) → List ℕ
 columns-left (columns.Of l r) held = l ∷ r ∷ []
 columns-left columns.Outside held = held
 columns-left (columns.Refused n) held = held
 
--- a row's seam by its place: its columns, and what it holds; 31 leaves the columns too
+-- §17.4 the number for a row's seam, 31 among them; a place past the last is unfit
 unfoldable pub row-seam-number : RowSeam → ℕ
 row-seam-number (row-seam.Of l r s) = seam-number s
 row-seam-number row-seam.Outside = unfit
 row-seam-number (row-seam.Refused n) = n
 
+-- §17.4 its columns, which 31 leaves too
 unfoldable pub row-seam-columns : RowSeam → (held : List ℕ) → List ℕ
 row-seam-columns (row-seam.Of l r s) held = cond (eqb (seam-number s) 0) (l ∷ r ∷ []) held
 row-seam-columns row-seam.Outside held = held
 row-seam-columns (row-seam.Refused n) held = held
 
+-- §17.4 its side
 unfoldable pub row-seam-side : RowSeam → (held : ℕ) → ℕ
 row-seam-side (row-seam.Of l r s) held = side-left s held
 row-seam-side row-seam.Outside held = held
 row-seam-side (row-seam.Refused n) held = held
 
+-- §17.4 its midpoint and half gap
 unfoldable pub row-seam-halves : RowSeam → (held : List Float) → List Float
 row-seam-halves (row-seam.Of l r s) held = halves-left s held
 row-seam-halves row-seam.Outside held = held
 row-seam-halves (row-seam.Refused n) held = held
 
--- a column's mark
+-- §17.4 the number for a column's mark; a column past the last is unfit
 unfoldable pub mark-number : Mark → ℕ
 mark-number (mark.Is f) = 0
 mark-number mark.Outside = unfit
 mark-number (mark.Refused n) = n
 
+-- §17.4 the mark
 unfoldable pub mark-left : Mark → (held : Bool) → Bool
 mark-left (mark.Is f) held = f
 mark-left mark.Outside held = held
 mark-left (mark.Refused n) held = held
 
--- a link's place
+-- §17.4 the number for a link; one that there is not is unfit
 unfoldable pub link-number : Link → ℕ
 link-number (link.At n) = 0
 link-number link.Outside = unfit
 link-number (link.Refused n) = n
 
+-- §17.4 its place
 unfoldable pub link-left : Link → (held : ℕ) → ℕ
 link-left (link.At n) held = n
 link-left link.Outside held = held

@@ -9,17 +9,17 @@ use Rattle.rule.specs.Stamp.{latest-stamp}
 use Rattle.reach.specs.Survey.{surveyed-of, largest-of}
 use Rattle.calls.specs.Answers.{survey-left}
 
--- a survey that is handed rows one after the other
+-- §15.3 a survey that is handed rows one after the other
 unfoldable pub surveys : Settings → (rows : List (List ℕ)) → (survey : List ℕ) → List ℕ
 surveys s [] held = held
 surveys s (ts ∷ rs) held = surveys s rs (survey-left (surveyed-of s (getD held 0 0) (getD held 2 0) ts) held)
 
--- a row of a wall: W times, each below 2^41
+-- §15.3 a row of a wall: W times, each below 2^41
 pub record Of-wall (s : Settings) (row : List ℕ) : Type 0 where
   pub long : length row ≡ s .width
   pub early : (c : ℕ) → c < s .width → getD row c 0 ≤ latest-stamp
 
--- rows of a wall, no more than come before its last, leave the survey with their number and the largest of their reaches
+-- §15.3 rows of a wall, no more than come before its last, leave the survey with their number and the largest of their reaches
 unfoldable pub Surveys-largest : Type 0
 Surveys-largest =
     (s : Settings) (rows : List (List ℕ)) → settings-refusal s ≡ 0 → length rows ≤ s .rows →

@@ -16,25 +16,29 @@ use Rattle.places.specs.declared.seams.RowSeam.the-variants as row-seam
 use Rattle.places.specs.declared.marks.Mark.the-variants as mark
 use Rattle.places.specs.declared.links.Link.the-variants as link
 
+-- §14.4 the settings
 unfoldable pub wall : Settings
 wall = settings 6 1 100 10 400 0 12
 
+-- §2.5 settings that are turned away with 1
 unfoldable pub narrow : Settings
 narrow = settings 5 1 100 10 400 0 12
 
--- the seven seams of six tiles, no eighth, and the settings' number
+-- §17.4 the seven seams of six tiles, and no eighth
 unfoldable pub Columns-cases : Type 0
 Columns-cases =
     map (columns-of wall) (0 ∷ 1 ∷ 2 ∷ 3 ∷ 4 ∷ 5 ∷ 6 ∷ 7 ∷ [])
     ≡ columns.Of 0 1 ∷ columns.Of 0 2 ∷ columns.Of 1 2 ∷ columns.Of 2 3 ∷ columns.Of 3 4 ∷ columns.Of 3 5 ∷ columns.Of 4 5 ∷ columns.Outside ∷ []
 
+-- §17.4 the settings' number
 unfoldable pub Columns-refused : Type 0
 Columns-refused = columns-of narrow 0 ≡ columns.Refused 1
 
--- a row with column 3 faulty; a time of 2^41; an eighth seam; 21 for five times and for two bytes of marks; the settings' number first
+-- §17.4 a row with a time of 2^41
 unfoldable pub times : List ℕ
 times = 1500 ∷ 1500 ∷ 1500 ∷ 1536 ∷ 1500 ∷ 2199023255552 ∷ []
 
+-- §17.4 column 3 faulty; a time of 2^41; an eighth seam; 21 for seven times and for two bytes of marks; the settings' number first
 unfoldable pub Seam-cases : Type 0
 Seam-cases =
     (seam-at wall times (8 ∷ []) 4 ≡ row-seam.Of 3 4 (Open Left))
@@ -44,7 +48,7 @@ Seam-cases =
     × (seam-at wall times (8 ∷ 0 ∷ []) 7 ≡ row-seam.Refused 21)
     × (seam-at narrow [] [] 9 ≡ row-seam.Refused 1)
 
--- byte 8 marks column 3 alone; no column 6; 21; the settings' number
+-- §17.4 byte 8 marks column 3 alone; no column 6; 21; the settings' number
 unfoldable pub Mark-cases : Type 0
 Mark-cases =
     (map (mark-of wall (8 ∷ [])) (2 ∷ 3 ∷ 5 ∷ 6 ∷ []) ≡ mark.Is false ∷ mark.Is true ∷ mark.Is false ∷ mark.Outside ∷ [])
@@ -52,7 +56,7 @@ Mark-cases =
     × (mark-of wall (8 ∷ 0 ∷ []) 6 ≡ mark.Refused 21)
     × (mark-of narrow [] 6 ≡ mark.Refused 1)
 
--- tile 0 hears 0, 1 and 2, tile 2 also 3, tile 5 hears 3, 4 and 5; 20 links in all; no tile 6; the settings' number
+-- §17.4 tile 0 hears 0, 1 and 2, tile 2 also 3, tile 5 hears 3, 4 and 5; 20 links in all; no tile 6; the settings' number
 unfoldable pub Link-cases : Type 0
 Link-cases =
     (map (link-of wall 0) (0 ∷ 1 ∷ 2 ∷ 3 ∷ []) ≡ link.At 0 ∷ link.At 1 ∷ link.At 2 ∷ link.Outside ∷ [])

@@ -10,6 +10,7 @@ use Rattle.columns.specs.Marks.{marked, mark-bytes}
 use Rattle.places.specs.declared.marks.Mark.{Mark}
 use Rattle.places.specs.declared.marks.Mark.the-variants as mark
 
+-- §17.4 whether a column is marked, 1 to 9, 21, or that there is no such column
 unfoldable pub mark-of : Settings → (marks : List ℕ) → (column : ℕ) → Mark
 mark-of s ms c =
     cond (not (eqb (settings-refusal s) 0)) (mark.Refused (settings-refusal s))

@@ -5,7 +5,7 @@ use Prim.Native.Nat.{ℕ, suc, _≤_}
 use Rattle.lines.specs.Row.{each-below, tile-text, seam-text, row-text}
 use Rattle.places.specs.Seams.{seam-left, seam-right}
 
--- the printed lines of a row are those of its tiles, then those of its seams 0 to W
+-- §10.3 the printed lines of a row are those of its tiles, then those of its seams 0 to W
 unfoldable pub Seams-in-order : Type 0
 Seams-in-order =
     (w l : ℕ) (ms ts : List ℕ) → 6 ≤ w →

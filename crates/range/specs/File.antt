@@ -16,13 +16,13 @@ use Rattle.steps.specs.Number.{settings-number, start-number, row-number, row-o
 use Rattle.search_lines.specs.Text.{faulty-word, line-text, largest-text, gap-text}
 use Rattle.telling.specs.Telling.{first-marked}
 
--- row l's lines, and then what follows with the largest reach of the rows so far; every row of a wall file has them (`Row-surveyed`)
+-- §15.4 row l's lines, and then what follows with the largest reach of the rows so far; every row of a wall file has them (`Row-surveyed`)
 unfoldable pub with-lines : Settings → (asked : List ℕ) → (l : ℕ) → Surveyed → (rest : ℕ → List ℕ) → List ℕ
 with-lines s asked l (surveyed.Row b m) rest = gap-text s b l asked ++ rest m
 with-lines s asked l surveyed.Outside rest = []
 with-lines s asked l (surveyed.Refused n) rest = []
 
--- n rows after row l, whose times are given; m is the largest reach of the rows before it. Row l's lines come when row l + 1 is
+-- §15.4 n rows after row l, whose times are given; m is the largest reach of the rows before it. Row l's lines come when row l + 1 is
 -- accepted, since its marks come with it; a faulty tile ends the search; the largest comes when the file has ended rightly.
 unfoldable pub rows-told : Settings → (asked : List ℕ) → (n l at m : ℕ) → (row rest : List ℕ) → List ℕ
 rows-told s asked zero l at m ts bs = cond (eqb (length bs) 0) (largest-text m) (refused-line 44 at)
@@ -35,6 +35,7 @@ rows-told s asked (suc n) l at m ts bs =
     (λ (k : ℕ). rows-told s asked n (suc l) (at + row-size w) k (row-of s ts (call-in w bs)) (drop (row-size w) bs))))
     (refused-line (row-number s ts bs) (row-offset s at bs))
 
+-- §15.4 what is printed of a file from tag 2 on
 unfoldable pub start-told : Settings → (asked : List ℕ) → (at m : ℕ) → (rest : List ℕ) → List ℕ
 start-told s asked at m bs =
     let size = start-size (s .width) in
@@ -42,6 +43,7 @@ start-told s asked at m bs =
     (rows-told s asked (s .rows) 0 (at + (3 + size)) m (times-in (s .width) (body size bs)) (drop (3 + size) bs))
     (refused-line (start-number s bs) at)
 
+-- §15.4 what is printed of a file, with the largest reach before it
 unfoldable pub file-told : (asked : List ℕ) → (m : ℕ) → (file : List ℕ) → List ℕ
 file-told asked m bs =
     let size = settings-size in
@@ -49,6 +51,6 @@ file-told asked m bs =
     (start-told (settings-in (body size bs)) asked (3 + size) m (drop (3 + size) bs))
     (refused-line (settings-number bs) 0)
 
--- what `wallreach` prints of a file, for the rows asked for
+-- §15.4 what `wallreach` prints of a file, for the rows asked for
 unfoldable pub search-text : (asked file : List ℕ) → List ℕ
 search-text asked bs = file-told asked 0 bs

@@ -7,11 +7,11 @@ use Rattle.settings.specs.declared.Settings.{Settings}
 use Rattle.file.specs.Cases.{printed}
 use Rattle.search_lines.specs.Text.{faulty-word, line-text, largest-text, gap-text}
 
--- W 10, R 5, d 100, u 10, A 400, r 0, h 12
+-- §15.4 W 10, R 5, d 100, u 10, A 400, r 0, h 12
 unfoldable pub wall : Settings
 wall = settings 10 5 100 10 400 0 12
 
--- `b F B`, then `r F L TICKS HOPS` for each later row of the wall that is asked for, in the order of the arguments; `largest TICKS ticks`;
+-- §15.4 `b F B`, then `r F L TICKS HOPS` for each later row of the wall that is asked for, in the order of the arguments; `largest TICKS ticks`;
 -- `faulty ROW COLUMN`
 unfoldable pub Line-cases : Type 0
 Line-cases =

@@ -10,7 +10,7 @@ use Rattle.stages.specs.declared.Wall.the-variants.{New, End, Over}
 use Rattle.file.specs.Cases.{printed}
 use Rattle.telling.specs.Telling.{first-marked, says, row-says, telling}
 
--- a bit for each column, from the lowest of the first byte on: no mark, that of column 3, of columns 3 and 1, of column 9
+-- §7.2 a bit for each column, from the lowest of the first byte on: no mark, that of column 3, of columns 3 and 1, of column 9
 unfoldable pub Marked-cases : Type 0
 Marked-cases =
     (first-marked 10 (0 ∷ 0 ∷ []) ≡ 10)
@@ -18,21 +18,22 @@ Marked-cases =
     × (first-marked 10 (10 ∷ 0 ∷ []) ≡ 1)
     × (first-marked 10 (0 ∷ 2 ∷ []) ≡ 9)
 
--- the wall that 01 prints at a row, so many bytes taken, and its row 0
+-- §14.4 this wall at a row, so many bytes taken
 unfoldable pub at-row : (row offset : ℕ) → Place
 at-row l at = place (settings 6 1 100 10 400 0 12) l at
 
+-- §14.4 its row 0
 unfoldable pub row-0 : List ℕ
 row-0 = 1000 ∷ 1000 ∷ 1000 ∷ 1080 ∷ 1000 ∷ 1000 ∷ []
 
--- a row without faults, where row 1 is asked for, with the largest so far; a faulty tile ends the search
+-- §15.4 a row without faults, where row 1 is asked for, with the largest so far; a faulty tile ends the search
 unfoldable pub Row-cases : Type 0
 Row-cases =
     (row-says (1 ∷ []) (at-row 0 78) (End (at-row 1 257)) 0 (0 ∷ []) row-0 ≡ says (End (at-row 1 257)) 256 (printed ("b 0 80" ∷ "r 0 1 256 1" ∷ [])))
     × (row-says [] (at-row 0 78) (End (at-row 1 257)) 300 (0 ∷ []) row-0 ≡ says (End (at-row 1 257)) 300 (printed ("b 0 80" ∷ [])))
     × (row-says (1 ∷ []) (at-row 0 78) (End (at-row 1 257)) 0 (40 ∷ []) row-0 ≡ says Over 0 (printed ("faulty 0 3" ∷ [])))
 
--- the end of the file, with the largest; a byte after it; a file that ends before its settings
+-- §15.4 the end of the file, with the largest; a byte after it; a file that ends before its settings
 unfoldable pub End-cases : Type 0
 End-cases =
     (telling [] (End (at-row 1 257)) 256 row-0 [] ≡ says Over 256 (printed ("largest 256 ticks" ∷ [])))

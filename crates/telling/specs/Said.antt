@@ -6,7 +6,7 @@ use Rattle.lines.specs.Wrote.{Wrote}
 use Rattle.telling.specs.Telling.{Telling}
 use Rattle.telling.specs.declared.Told.{Told}
 
--- what was told is what the definition tells, and its text stands in the buffer
+-- §15.4 what was told is what the definition tells, and its text stands in the buffer
 pub record Said (t : Telling) (r : Told) (before : List ℕ) (at : ℕ) (after : List ℕ) : Type 0 where
   pub wall : r .wall ≡ t .wall
   pub largest : r .largest ≡ t .largest

@@ -16,37 +16,39 @@ use Rattle.stages.specs.declared.Wall.{Wall}
 use Rattle.stages.specs.declared.Wall.the-variants.{New, Start, Row, End, Over}
 use Rattle.search_lines.specs.Text.{faulty-word, line-text, largest-text, gap-text}
 
--- the lowest marked column below w, or w
+-- §15.4 the lowest marked column of the n from c on, or the one behind them
 unfoldable pub first-in : (n c : ℕ) → (marks : List ℕ) → ℕ
 first-in zero c ms = c
 first-in (suc n) c ms = cond (marked ms c) c (first-in n (suc c) ms)
 
+-- §15.4 the lowest marked column of a row, or W
 unfoldable pub first-marked : (w : ℕ) → (marks : List ℕ) → ℕ
 first-marked w ms = first-in w 0 ms
 
--- the wall as it then stands, the largest reach so far, and what is printed
+-- §15.4 the wall as it then stands, the largest reach so far, and what is printed
 pub record Telling : Type 0 where
   pub wall : Wall
   pub largest : ℕ
   pub text : List ℕ
 
+-- §15.4 the record of these
 unfoldable pub says : Wall → (largest : ℕ) → (text : List ℕ) → Telling
 says x m t = record { wall = x; largest = m; text = t }
 
--- a row without faults: its lines. No row of a wall file is turned away (`Row-surveyed`).
+-- §15.4 a row without faults: its lines. No row of a wall file is turned away (`Row-surveyed`).
 unfoldable pub survey-says : (asked : List ℕ) → Place → (after : Wall) → (largest : ℕ) → Surveyed → Telling
 survey-says asked p after m (surveyed.Row b largest) = says after largest (gap-text (p .settings) b (p .row) asked)
 survey-says asked p after m surveyed.Outside = says Over m []
 survey-says asked p after m (surveyed.Refused n) = says Over m []
 
--- a faulty tile ends the search
+-- §15.4 a faulty tile ends the search
 unfoldable pub row-says : (asked : List ℕ) → Place → (after : Wall) → (largest : ℕ) → (marks row : List ℕ) → Telling
 row-says asked p after m ms ts =
     let w = p .settings .width in
     cond (ltb (first-marked w ms) w) (says Over m (line-text faulty-word (p .row ∷ first-marked w ms ∷ [])))
     (survey-says asked p after m (surveyed-of (p .settings) (p .row) m ts))
 
--- a step that is taken, by its wall: the marks of row l come with row l + 1, and the largest with the end of the file
+-- §15.4 a step that is taken, by its wall: the marks of row l come with row l + 1, and the largest with the end of the file
 unfoldable pub step-says : (asked : List ℕ) → Wall → (after : Wall) → (largest : ℕ) → (row part : List ℕ) → Telling
 step-says asked New after m ts bs = says after m []
 step-says asked (Start p) after m ts bs = says after m []
@@ -54,6 +56,7 @@ step-says asked (Row p) after m ts bs = row-says asked p after m (marks-in (p .s
 step-says asked (End p) after m ts bs = says after m (largest-text m)
 step-says asked Over after m ts bs = says after m []
 
+-- §15.4 what a step tells: the refusal, or what its part lets be told
 unfoldable pub telling : (asked : List ℕ) → Wall → (largest : ℕ) → (row part : List ℕ) → Telling
 telling asked x m ts bs =
     let o = step-of x ts bs in

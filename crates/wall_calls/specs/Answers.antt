@@ -10,28 +10,30 @@ use Rattle.steps.specs.declared.Answer.{Answer}
 use Rattle.steps.specs.declared.Answer.the-variants as take
 use Rattle.layout.specs.Words.{unfit, place-in, wall-in, wall-words, refused-words, refused-number, takes}
 
--- a file that is turned away is turned away again; words that are no wall's, and a part longer than is due, are unfit
+-- §17.3 a file that is turned away is turned away again; words that are no wall's, and a part longer than is due, are unfit
 unfoldable pub step-answer : (words part row : List ℕ) → (next : ℕ) → Answer
 step-answer ws bs ts n =
     cond (eqb (refused-number ws) 0)
     (cond (takes ws (length bs)) (answer-of (wall-in ws) bs ts n) take.Unfit)
     (take.Taken (taken Over (refused-number ws) (getD ws 9 0)))
 
--- the row that it writes
+-- §17.3 the row that it writes
 unfoldable pub next-left : (words part row held : List ℕ) → List ℕ
 next-left ws bs ts held =
     cond (eqb (refused-number ws) 0) (cond (takes ws (length bs)) (row-after (wall-in ws) bs ts held) held) held
 
--- its number, the wall, which keeps its settings where it is over, and the offset of a refusal
+-- §17.1 the number of a step
 unfoldable pub step-number : Answer → ℕ
 step-number (take.Taken t) = t .number
 step-number take.Unfit = unfit
 
+-- §17.3 the wall afterwards, which keeps its settings where it is over
 unfoldable pub wall-left : Answer → (held : List ℕ) → List ℕ
 wall-left (take.Taken t) held =
     cond (eqb (t .number) 0) (wall-words (t .wall) (place-in held)) (refused-words (t .number) (t .offset) (place-in held))
 wall-left take.Unfit held = held
 
+-- §17.3 the offset of a refusal
 unfoldable pub offset-left : Answer → (held : ℕ) → ℕ
 offset-left (take.Taken t) held = cond (eqb (t .number) 0) held (t .offset)
 offset-left take.Unfit held = held

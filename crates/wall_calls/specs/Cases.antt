@@ -6,21 +6,22 @@ use Prim.Native.Nat.{ℕ}
 use lib.ListN.{replicate}
 use Rattle.wall_calls.specs.Answers.{step-answer, step-number, wall-left, offset-left}
 
--- polzaintu_wall_step: the number, the wall and the offset
+-- §17.3 polzaintu_wall_step: the number, the wall and the offset
 unfoldable pub Step : (wall part row : List ℕ) → (next number : ℕ) → (wall-after : List ℕ) → (offset : ℕ) → Type 0
 Step ws part row next n after at =
     let a = step-answer ws part row next in
     (step-number a ≡ n) × (wall-left a ws ≡ after) × (offset-left a 7 ≡ at)
 
--- the settings of the printed wall, as tag 1 has them, and the wall's words at a stage
+-- §14.4 the settings, as tag 1 has them
 unfoldable pub settings-field : List ℕ
 settings-field =
     1 ∷ 0 ∷ 24 ∷ 0 ∷ 6 ∷ 0 ∷ 1 ∷ 0 ∷ 0 ∷ 0 ∷ 100 ∷ 0 ∷ 0 ∷ 0 ∷ 10 ∷ 0 ∷ 0 ∷ 1 ∷ 144 ∷ 0 ∷ 0 ∷ 0 ∷ 0 ∷ 0 ∷ 0 ∷ 0 ∷ 12 ∷ []
 
+-- §17.2 the wall's words at a stage
 unfoldable pub wall-at : (stage row offset : ℕ) → List ℕ
 wall-at n l at = n ∷ 6 ∷ 1 ∷ 100 ∷ 10 ∷ 400 ∷ 0 ∷ 12 ∷ l ∷ at ∷ []
 
--- settings taken; a file that ends too soon; row 0 taken; another tag than due, 27 bytes in; a row to be written of another length; the
+-- §17.3 settings taken; a file that ends too soon; row 0 taken; another tag than due, 27 bytes in; a row to be written of another length; the
 -- end of the file; a byte after it
 unfoldable pub Step-cases : Type 0
 Step-cases =
@@ -32,7 +33,7 @@ Step-cases =
     × Step (wall-at 3 1 257) [] (replicate 6 0) 6 0 (wall-at 4 1 257) 7
     × Step (wall-at 3 1 257) (0 ∷ []) (replicate 6 0) 6 44 (wall-at 5 44 257) 257
 
--- an ended file once more, and with a byte; a file that is turned away once more, whatever is lent; a part longer than is due, at its
+-- §17.3 an ended file once more, and with a byte; a file that is turned away once more, whatever is lent; a part longer than is due, at its
 -- start and at its end; a refusal without a number, or with that of what is
 -- unfit, and a stage past all
 unfoldable pub Again-cases : Type 0

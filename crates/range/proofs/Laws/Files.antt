@@ -1,4 +1,4 @@
--- Two files as the two runs of demand 3, and how large a reach can be. Assumes nothing.
+-- Two files as two runs side by side, and how large a reach can be. Assumes nothing.
 use mathlib.Core.Path.{_≡_}
 use mathlib.Core.Bool.{false}
 use mathlib.Core.List.{List, [], _∷_}
