@@ -5,7 +5,7 @@
  * the call holds what it held. A wall file keeps an order of its own, and stays turned away
  * (polzaintu_wall_step). Each function lists its numbers; polzaintu_words has the words of each,
  * and docs/NUMBERS.md a table. Times, delays, stamps and gaps are in ticks; W, R, d, u, A, r and h
- * are the settings.
+ * are the settings. A clause of docs/REQUIREMENTS.md is named as in §4.2.
  *
  * What a caller owes:
  * - A pointer that comes with a count may be NULL where the count is 0, as an empty std::vector
@@ -127,7 +127,7 @@ POLZAINTU_ANSWER static inline const char *polzaintu_words(uint32_t number) {
     }
 }
 
-/* ---- Settings ---- */
+/* ---- Settings: §2.1 to §2.6 ---- */
 
 typedef struct {
     uint64_t width;       /* W, the tiles of a row: 6 to 256 */
@@ -145,7 +145,7 @@ typedef struct {
  * Answers 0; 1 to 7 W, R, d, u, A, r, h by turns; 8 and 9 h and A against the others. */
 POLZAINTU_ANSWER uint32_t polzaintu_settings_refusal(const polzaintu_settings *settings);
 
-/* ---- A tile ---- */
+/* ---- A tile: §6.1 to §6.3, by the rule of §4.1 to §5.3 ---- */
 
 typedef struct {
     uint64_t own;           /* the stamp of the sender in the tile's own column */
@@ -167,7 +167,7 @@ POLZAINTU_ANSWER uint32_t polzaintu_tile(const polzaintu_settings *settings,
                                          const polzaintu_stamps *stamps,
                                          polzaintu_forwarded *answer);
 
-/* ---- A row ----
+/* ---- A row: §7.1 to §7.6, its marks and links by place §17.4 ----
  *
  * Columns c and c + 1 are neighbours; so are columns 0 and 2, and columns W - 3 and W - 1. A tile's
  * senders are the tiles of the row before in its own column and that column's neighbours: four for
@@ -213,7 +213,7 @@ POLZAINTU_ANSWER uint32_t polzaintu_mark(const polzaintu_settings *settings, con
 POLZAINTU_ANSWER uint32_t polzaintu_link_place(const polzaintu_settings *settings, uint64_t tile,
                                                uint64_t sender, uint64_t *place);
 
-/* ---- A seam: two neighbouring tiles of one row ---- */
+/* ---- A seam, two neighbouring tiles of one row: §8.1 to §8.4, of a row by place §17.4 ---- */
 
 enum {
     POLZAINTU_CLOSED = 0,     /* neither tile is faulty */
@@ -259,7 +259,7 @@ POLZAINTU_ANSWER uint32_t polzaintu_row_seam(const polzaintu_settings *settings,
                                              polzaintu_pair *columns, uint32_t *side,
                                              polzaintu_halves *halves);
 
-/* ---- How far one broken tile reaches ---- */
+/* ---- How far one broken tile reaches: §12.3, §15.1 to §15.3 ---- */
 
 /* Writes B of a row's W times to gap: how far apart two neighbours pulse at most.
  *
@@ -321,7 +321,7 @@ POLZAINTU_ANSWER uint32_t polzaintu_survey_row(const polzaintu_settings *setting
                                                const uint64_t *row, size_t row_len,
                                                polzaintu_survey *survey);
 
-/* ---- A wall file, step by step ----
+/* ---- A wall file, step by step: §9.1 to §9.8, §17.3 ----
  *
  * The settings, row 0, each row 1 to R and the end of the file are a step each. docs/FORMAT.md has
  * the format. */

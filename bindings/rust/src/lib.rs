@@ -3,7 +3,7 @@
 //!
 //! A call or a file that is turned away answers a [`Refusal`], the lowest number that applies, and
 //! then every lent row holds what it held. Times, delays, stamps and gaps are in ticks. W, R, d, u,
-//! A, r and h are the settings ([`Limits`]).
+//! A, r and h are the settings ([`Limits`]). §4.2 is a clause of `docs/REQUIREMENTS.md`.
 //!
 //! - [`Settings`]: checked settings of a wall.
 //! - [`tile::forward`]: what one tile forwards.

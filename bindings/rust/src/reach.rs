@@ -1,4 +1,4 @@
-//! How far one broken tile reaches: what a search has to cover.
+//! How far one broken tile reaches, and so what a search has to cover: §12.3, §15.1 to §15.3.
 
 use crate::{ffi, Refusal, Settings};
 use std::ops::RangeInclusive;

@@ -1,4 +1,4 @@
-//! The numbers under which calls and files are turned away.
+//! The numbers under which calls and files are turned away: §13.1.
 
 use crate::words;
 use std::error::Error;

@@ -1,4 +1,4 @@
-//! One row of pulses, worked out from the row before it.
+//! One row of pulses, worked out from the row before it: §7.1 to §7.6.
 
 use crate::{ffi, Refusal, Settings};
 

@@ -1,4 +1,4 @@
-//! Seams: two neighbouring tiles of one row.
+//! Seams, two neighbouring tiles of one row: §8.1 to §8.4.
 
 use crate::{ffi, Refusal, Settings};
 

@@ -1,4 +1,4 @@
-//! A wall's settings, before and after the checks.
+//! A wall's settings, before and after the checks: §2.1 to §2.6.
 
 use crate::{ffi, Refusal};
 

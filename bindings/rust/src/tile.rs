@@ -1,4 +1,4 @@
-//! One tile: what it forwards, from the stamps of its predecessors.
+//! One tile, and what it forwards by the stamps of its predecessors: §6.1 to §6.3.
 
 use crate::{ffi, Refusal, Settings};
 

@@ -1,4 +1,4 @@
-//! Wall files: the rows that a file describes, as they become known.
+//! Wall files, and the rows that a file describes as they become known: §9.1 to §9.8, §10.1.
 //!
 //! `docs/FORMAT.md` has the format. The marks of a row come with the row after it, so a row is
 //! known, and its seams with it, once the next row is accepted; the last once the file has ended.
