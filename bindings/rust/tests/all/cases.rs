@@ -98,7 +98,7 @@ fn search_range() {
                 let reach = range.reach(broken, number(2)).unwrap();
                 assert_eq!(reach.ticks, number(3), "{line}");
             }
-            "largest" => assert_eq!(range.largest(), number(1)),
+            "largest" => assert_eq!((range.largest(), words[2]), (number(1), "ticks")),
             _ => panic!("{line}"),
         }
     }
