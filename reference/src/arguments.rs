@@ -1,8 +1,9 @@
-//! The words of a call, as both programs take them: numbers in front, then the name of a file.
+//! The words of a call, as both programs take them: numbers in front, then the name of a file; and what is done of a call.
 
 use std::fs::File;
-use std::io::{self, Read};
+use std::io::{self, BufWriter, Read, StdoutLock, Write};
 use std::ops::RangeInclusive;
+use std::process::ExitCode;
 
 /// What a call asks for.
 #[derive(Clone, Debug, PartialEq, Eq)]
@@ -55,8 +56,58 @@ pub fn read(words: &[String], most: usize, range: RangeInclusive<usize>) -> Call
     }
 }
 
+/// A program and what it takes.
+pub struct Program {
+    /// Its name, in front of what it says on standard error.
+    pub name: &'static str,
+    /// The line that tells its use.
+    pub usage: &'static str,
+    /// The most numbers in front.
+    pub most: usize,
+    /// Where each of them lies.
+    pub range: RangeInclusive<usize>,
+}
+
+/// Answers a program's call: `print` is handed the numbers in front, the bytes of the wall file and standard output. What can't
+/// be done is said on standard error, with another status than 0.
+pub fn answer(
+    program: &Program,
+    print: impl FnOnce(&[usize], &[u8], &mut BufWriter<StdoutLock>) -> io::Result<()>,
+) -> ExitCode {
+    let Program { name, usage, .. } = program;
+    let words: Vec<String> = std::env::args().skip(1).collect();
+    let (numbers, file) = match read(&words, program.most, program.range.clone()) {
+        Call::Run { numbers, name } => (numbers, name),
+        Call::Help => {
+            println!("{usage}");
+            return ExitCode::SUCCESS;
+        }
+        Call::Version => {
+            println!("{name} {}", env!("CARGO_PKG_VERSION"));
+            return ExitCode::SUCCESS;
+        }
+        Call::Wrong(word) => {
+            eprintln!("{name}: unexpected argument: {word}\n{usage}");
+            return ExitCode::from(2);
+        }
+    };
+    let failed = |doing, error| {
+        eprintln!("{name}: {doing}: {error}");
+        ExitCode::FAILURE
+    };
+    let file = match contents(file.as_deref()) {
+        Ok(file) => file,
+        Err(error) => return failed("reading", error),
+    };
+    let mut out = BufWriter::with_capacity(1 << 16, io::stdout().lock());
+    match print(&numbers, &file, &mut out).and_then(|()| out.flush()) {
+        Ok(()) => ExitCode::SUCCESS,
+        Err(error) => failed("writing", error),
+    }
+}
+
 /// All of a file, or of standard input.
-pub fn contents(name: Option<&str>) -> io::Result<Vec<u8>> {
+fn contents(name: Option<&str>) -> io::Result<Vec<u8>> {
     let mut file = Vec::new();
     match name {
         Some(name) => File::open(name)?.read_to_end(&mut file)?,

@@ -3,7 +3,7 @@ ghost use mathlib.Core.Path.{_≡_};
 ghost use mathlib.Core.Bool.{true};
 ghost use Prim.Native.Nat.{_≤_, _<_};
 ghost use Rattle.lines.specs.Promises.{is-digit, all-are, spelt};
-ghost use Rattle.arguments.specs.Words.{same, number-word, option-word, word-of};
+ghost use Rattle.arguments.specs.Words.{number-word, option-word, word-of};
 ghost use Rattle.arguments.specs.Call.{Some-word, Called};
 
 // What a word is by itself.
@@ -104,33 +104,13 @@ fn word_of(word: &[u8], least: u64, largest: u64) -> Word
 fn option(word: &[u8]) -> Word
     ensures { λ r. ⌜ r ≡ option-word (now (word .entry)) ⌝ }
 {
-    if same(word, b"--help") {
+    if check::same(word, b"--help") {
         return Word::Help;
     }
-    if same(word, b"--version") {
+    if check::same(word, b"--version") {
         return Word::Version;
     }
     Word::Other
-}
-
-// Whether two words are the same, byte by byte.
-fn same(a: &[u8], b: &[u8]) -> bool
-    ensures { λ r. ⌜ r ≡ same (now (a .entry)) (now (b .entry)) ⌝ }
-{
-    let mut i = 0;
-    while i < a.len() {
-        if b.len() <= i {
-            return false;
-        }
-        if a[i] != b[i] {
-            return false;
-        }
-        i += 1;
-    }
-    if i < b.len() {
-        return false;
-    }
-    true
 }
 
 fn all_digits(word: &[u8]) -> bool

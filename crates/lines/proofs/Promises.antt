@@ -1,6 +1,6 @@
 -- The proofs of what specs/Promises.antt states. Assumes nothing.
 use mathlib.Core.Path.{_≡_, refl, sym, _∙_}
-use mathlib.Core.Bool.{Bool, true, false, _&&_, _||_, true≢false}
+use mathlib.Core.Bool.{Bool, true, false, _||_}
 use mathlib.Core.List.{List, [], _∷_, _++_}
 use Prim.Native.Nat.{ℕ, zero, suc, _+_, _*_, _/_, _%_, _^_, _≤_, _<_}
 use native.Mathlib.Omega.{arith}
@@ -15,6 +15,7 @@ use Rattle.lines.specs.Number.{glyph, decimal-in, decimal, hexadecimal}
 use Rattle.lines.specs.Line.{t-line, halves-words, open-words, side-word, seam-head, seam-line, s-line}
 use Rattle.lines.specs.Row.{each-below, each-of, right-neighbours, tile-text, seam-text, row-text}
 use Rattle.lines.specs.Promises.{is-digit, is-hexadecimal, all-are, value-of, spelt-from, spelt, Decimal-right, Hexadecimal-right, printed-lines, Printed-row}
+use Rattle.lines.proofs.Laws.All.{all-then}
 use Rattle.lines.proofs.Laws.Number.{glyph-low, glyph-high, one-digit, more-digits, hexadecimal-length}
 
 -- a digit's glyph has its value, and is a digit
@@ -46,14 +47,8 @@ unfolding spelt-from
 spelt-more b n [] g = refl
 spelt-more b n (h ∷ gs) g = spelt-more b (n * b + value-of h) gs g
 
-both-hold : (a b : Bool) → (a && b) ≡ true → (a ≡ true) × (b ≡ true)
-both-hold true b e = (refl, e)
-both-hold false b e = absurd (true≢false (sym e))
-
 all-more : (f : ℕ → Bool) (gs : List ℕ) (g : ℕ) → all-are f gs ≡ true → f g ≡ true → all-are f (gs ++ (g ∷ [])) ≡ true
-unfolding all-are
-all-more f [] g e d = rw d
-all-more f (h ∷ gs) g e d = let k = both-hold (f h) (all-are f gs) e in rw (k .0) (all-more f gs g (k .1) d)
+all-more f gs g e d = all-then f gs (g ∷ []) e (unfold all-are in rw d)
 
 -- digits that spell a number and begin with no `0` unless it is 0
 record Spells (n : ℕ) (gs : List ℕ) : Type 0 where

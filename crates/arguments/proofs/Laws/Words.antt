@@ -8,13 +8,11 @@ use borrow.Author.Tests.{eq-eqb, ne-eqb, le-leb, lt-leb, lt-ltb, le-ltb, leb-tru
 use lib.Dec.{leb, ltb}
 use lib.ListN.{length, getD, drop, drop-of-length-le}
 use lib.Seq.{drop-cons}
+use Rattle.settings.proofs.Laws.Cases.{by-equal}
+use Rattle.lines.proofs.Laws.All.{both, all-at}
 use Rattle.lines.specs.Promises.{is-digit, all-are, value-of, spelt-from, spelt}
 use Rattle.arguments.specs.declared.Word.the-variants.{Number, Name, Other}
 use Rattle.arguments.specs.Words.{same, number-word, option-word, word-of}
-
-both-true : (a b : Bool) → (a && b) ≡ true → (a ≡ true) × (b ≡ true)
-both-true true b e = (refl, e)
-both-true false b e = absurd (true≢false (sym e))
 
 digit-below : (g : ℕ) → g < 48 → is-digit g ≡ false
 unfolding is-digit
@@ -33,17 +31,11 @@ unfolding value-of
 digit-value g j = let below-58 : g < 58 = omega (arith, j) in rw (lt-ltb g 58 below-58)
 
 -- the digits of a word that has no other bytes
-digit-in : (gs : List ℕ) (i : ℕ) → all-are is-digit gs ≡ true → i < length gs → is-digit (getD gs i 0) ≡ true
-unfolding all-are
-digit-in [] i e j = absurd (omega (arith, j))
-digit-in (g ∷ gs) zero e j = both-true (is-digit g) (all-are is-digit gs) e .0
-digit-in (g ∷ gs) (suc i) e j = digit-in gs i (both-true (is-digit g) (all-are is-digit gs) e .1) (omega (arith, j))
-
 pub digit-at : (gs : List ℕ) (i : ℕ) → all-are is-digit gs ≡ true → i < length gs → (48 ≤ getD gs i 0) × (getD gs i 0 ≤ 57)
 unfolding is-digit
 digit-at gs i e j =
     let g = getD gs i 0 in
-    let (low, high) = both-true (leb 48 g) (ltb g 58) (digit-in gs i e j) in
+    let (low, high) = both (leb 48 g) (ltb g 58) (all-at is-digit gs i e j) in
     let below-58 = ltb-true g 58 high in
     (leb-true 48 g low, omega (arith, below-58))
 
@@ -122,37 +114,25 @@ module _ (word : List ℕ) where
   unfolding number-word
   within least largest i n s j k m = rw (all-spelt i n s j, le-leb least n k, le-leb n largest m)
 
--- two words are the same up to i
-unfoldable pub Same-to : (a b : List ℕ) → (i : ℕ) → Type 0
-Same-to a b i = same a b ≡ same (drop i a) (drop i b)
+-- a test that tells whether two words are equal tells whether they are the same
+itself : (w : List ℕ) → same w w ≡ true
+unfolding same
+itself [] = refl
+itself (g ∷ gs) = rw (eq-eqb g g refl, itself gs)
 
-module _ (a b : List ℕ) where
-  pub none-differ : Same-to a b 0
-  unfolding Same-to
-  none-differ = refl
+another : (a b : List ℕ) → (a ≡ b → ⊥) → same a b ≡ false
+unfolding same
+another [] [] k = absurd (k refl)
+another [] (y ∷ b) k = refl
+another (x ∷ a) [] k = refl
+another (x ∷ a) (y ∷ b) k =
+    by-equal x y
+    (λ e. rw (eq-eqb x y e) (another a b (λ d. k (rw (e, d)))))
+    (λ e. rw (ne-eqb x y e))
 
-  module _ (i : ℕ) (s : Same-to a b i) where
-    pub shorter : i < length a → length b ≤ i → false ≡ same a b
-    unfolding Same-to same
-    shorter j k = sym (s ∙ rw (drop-cons a i 0 j, drop-of-length-le b k))
-
-    pub differ : i < length a → i < length b → (getD a i 0 ≡ getD b i 0 → ⊥) → false ≡ same a b
-    unfolding Same-to same
-    differ j k e = sym (s ∙ rw (drop-cons a i 0 j, drop-cons b i 0 k, ne-eqb (getD a i 0) (getD b i 0) e))
-
-    pub same-more : i < length a → i < length b → getD a i 0 ≡ getD b i 0 → Same-to a b (i + 1)
-    unfolding Same-to same
-    same-more j k e =
-        let one : i + 1 ≡ suc i = omega arith in
-        rw one (s ∙ rw (drop-cons a i 0 j, drop-cons b i 0 k, eq-eqb (getD a i 0) (getD b i 0) e))
-
-    pub longer : length a ≤ i → i < length b → false ≡ same a b
-    unfolding Same-to same
-    longer j k = sym (s ∙ rw (drop-of-length-le a j, drop-cons b i 0 k))
-
-    pub all-same : length a ≤ i → length b ≤ i → true ≡ same a b
-    unfolding Same-to same
-    all-same j k = sym (s ∙ rw (drop-of-length-le a j, drop-of-length-le b k))
+pub same-by : (a b : List ℕ) (r : Bool) → (r ≡ true → a ≡ b) × (a ≡ b → r ≡ true) → same a b ≡ r
+same-by a b true e = ap (λ (w : List ℕ). same a w) (sym (e .0 refl)) ∙ itself a
+same-by a b false e = another a b (λ d. true≢false (sym (e .1 d)))
 
 -- a word by its first byte and its digits
 module _ (least largest : ℕ) where

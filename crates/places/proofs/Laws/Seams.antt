@@ -1,13 +1,14 @@
 -- The columns of a seam by its place, and the seams in the order of the printed lines: column by column, the text of the seams on its
 -- right. Assumes nothing.
 use mathlib.Core.Path.{_≡_, refl, sym, _∙_, ap}
-use mathlib.Core.Bool.{Bool, true, false, not, _||_}
+use mathlib.Core.Bool.{false, not}
 use mathlib.Core.List.{List, [], _++_, append-assoc, append-nil}
 use mathlib.Core.Logic.{inl, inr}
 use Prim.Native.Nat.{ℕ, zero, suc, _+_, _-_, _≤_, _<_}
 use lib.Dec.{eqb}
 use native.Mathlib.Omega.{arith}
-use borrow.Author.Tests.{eqb-true, lt-ltb, le-ltb}
+use borrow.Author.Tests.{eqb-true, lt-ltb, le-ltb, not-false}
+use Rattle.settings.proofs.Laws.Refusal.{neither}
 use Rattle.columns.specs.Marks.{mark-bytes}
 use Rattle.lines.specs.Row.{each-below, each-of, right-neighbours}
 use Rattle.seam_lines.proofs.Laws.Neighbours.{right-none, right-one, right-two, text-none, text-one, text-two}
@@ -41,12 +42,9 @@ module _ (w i : ℕ) where
 -- what is not turned away with 21
 pub right-lengths : (w n m : ℕ) → other-lengths w n m ≡ false → (n ≡ w) × (m ≡ mark-bytes w)
 unfolding other-lengths
-right-lengths w n m e = go (eqb n w) refl (eqb m (mark-bytes w)) refl e
-  where
-    go : (p : Bool) → eqb n w ≡ p → (q : Bool) → eqb m (mark-bytes w) ≡ q → (not p || not q) ≡ false → (n ≡ w) × (m ≡ mark-bytes w)
-    go true a true b z = (eqb-true n w a, eqb-true m (mark-bytes w) b)
-    go true a false b z = let never : _≡_ {A = ℕ} 0 1 = cc in absurd (omega arith)
-    go false a q b z = let never : _≡_ {A = ℕ} 0 1 = cc in absurd (omega arith)
+right-lengths w n m e =
+    let (a, b) = neither (not (eqb n w)) (not (eqb m (mark-bytes w))) e in
+    (eqb-true n w (not-false (eqb n w) a), eqb-true m (mark-bytes w) (not-false (eqb m (mark-bytes w)) b))
 
 -- the text of each seam, whatever it is
 module _ (w : ℕ) (wide : 6 ≤ w) (text : ℕ → ℕ → List ℕ) where

@@ -1,13 +1,14 @@
 -- No `k` stands in what is printed before the last three glyphs of a whole answer, so what is cut from it does not end as it does.
 -- Assumes nothing.
 use mathlib.Core.Path.{_≡_, refl, sym, _∙_, ap}
-use mathlib.Core.Bool.{Bool, true, false, not, _&&_, true≢false}
+use mathlib.Core.Bool.{Bool, true, not, true≢false}
 use mathlib.Core.List.{List, [], _∷_, _++_, append-assoc}
 use Prim.Native.Nat.{ℕ, zero, suc, _+_, _-_, _/_, _%_, _<_}
 use native.Mathlib.Omega.{arith}
 use borrow.Author.Tests.{ne-eqb}
 use lib.Dec.{eqb}
-use lib.ListN.{length, getD, take, length-append, length-take}
+use lib.ListN.{length, getD, take, length-append, length-take, List·getD-append}
+use lib.Seq.{getD-take, getD-append-add}
 use Rattle.settings.proofs.Laws.Cases.{by-order}
 use Rattle.settings.specs.declared.Settings.{Settings}
 use Rattle.runs.specs.Reach.{widest-gap}
@@ -17,6 +18,7 @@ use Rattle.reach.specs.declared.Reached.the-variants.{Within, Outside, Refused}
 use Rattle.lines.specs.Number.{glyph, decimal-in, decimal}
 use Rattle.lines.specs.Line.{space, line-end}
 use Rattle.lines.specs.Promises.{all-are}
+use Rattle.lines.proofs.Laws.All.{all-then, all-at}
 use Rattle.lines.proofs.Laws.Number.{glyph-low, one-digit, more-digits}
 use Rattle.search_lines.specs.Text.{b-word, r-word, largest-word, ticks-word, numbers-text, line-text, largest-text, reach-text, reach-texts, gap-text}
 use Rattle.range.specs.Promises.{gaps-text}
@@ -25,24 +27,8 @@ use Rattle.range.specs.Promises.{gaps-text}
 unfoldable other : (glyph : ℕ) → Bool
 other g = not (eqb g 107)
 
-both : (a b : Bool) → a ≡ true → b ≡ true → (a && b) ≡ true
-both true b e f = f
-both false b e f = absurd (true≢false (sym e))
-
-first-holds : (a b : Bool) → (a && b) ≡ true → (a ≡ true) × (b ≡ true)
-first-holds true b e = (refl, e)
-first-holds false b e = absurd (true≢false (sym e))
-
 then : (gs hs : List ℕ) → all-are other gs ≡ true → all-are other hs ≡ true → all-are other (gs ++ hs) ≡ true
-unfolding all-are
-then [] hs e f = f
-then (g ∷ gs) hs e f = let (h, t) = first-holds (other g) (all-are other gs) e in both (other g) (all-are other (gs ++ hs)) h (then gs hs t f)
-
-at-place : (gs : List ℕ) (i : ℕ) → all-are other gs ≡ true → i < length gs → other (getD gs i 0) ≡ true
-unfolding all-are
-at-place [] i e j = absurd (omega (arith, j))
-at-place (g ∷ gs) zero e j = first-holds (other g) (all-are other gs) e .0
-at-place (g ∷ gs) (suc i) e j = at-place gs i (first-holds (other g) (all-are other gs) e .1) (omega (arith, j))
+then = all-then other
 
 digit : (d : ℕ) → d < 10 → all-are other (glyph d ∷ []) ≡ true
 unfolding all-are other
@@ -104,25 +90,6 @@ split n =
     append-assoc (largest-word ++ (space ∷ decimal n)) (space ∷ ticks-word) (line-end ∷ [])
     ∙ sym (append-assoc (largest-word ++ (space ∷ decimal n)) (space ∷ 116 ∷ 105 ∷ 99 ∷ []) from-k)
 
--- the glyph at a place of what is joined, and of what is taken
-in-front : (gs hs : List ℕ) (i : ℕ) → i < length gs → getD (gs ++ hs) i 0 ≡ getD gs i 0
-in-front [] hs i j = absurd (omega (arith, j))
-in-front (g ∷ gs) hs zero j = refl
-in-front (g ∷ gs) hs (suc i) j = in-front gs hs i (omega (arith, j))
-
-behind : (gs hs : List ℕ) (i : ℕ) → getD (gs ++ hs) (length gs + i) 0 ≡ getD hs i 0
-behind [] hs i = ap (λ (k : ℕ). getD hs k 0) (zero-more i)
-  where
-    zero-more : (n : ℕ) → 0 + n ≡ n
-    zero-more n = omega arith
-behind (g ∷ gs) hs i = let up : length (g ∷ gs) + i ≡ suc (length gs + i) = omega arith in rw up (behind gs hs i)
-
-of-taken : (n : ℕ) (gs : List ℕ) (i : ℕ) → i < n → getD (take n gs) i 0 ≡ getD gs i 0
-of-taken zero gs i j = absurd (omega (arith, j))
-of-taken (suc n) [] i j = refl
-of-taken (suc n) (g ∷ gs) zero j = refl
-of-taken (suc n) (g ∷ gs) (suc i) j = of-taken n gs i (omega (arith, j))
-
 cut-ends : (lines : List ℕ) (m n : ℕ) → all-are other lines ≡ true → n < length (lines ++ largest-text m) → (begin : List ℕ) →
     take n (lines ++ largest-text m) ≡ begin ++ (ticks-word ++ (line-end ∷ [])) → ⊥
 unfolding other
@@ -136,9 +103,9 @@ cut-ends lines m n clean less begin e =
     let i = length begin + 3 in
     let inside : i < length u = omega (arith, taken, size, less) in
     let k : getD u i 0 ≡ 107 =
-    sym (in-front u from-k i inside) ∙ sym (ap (λ (l : List ℕ). getD l i 0) whole) ∙ sym (of-taken n t i (omega (arith, taken)))
-    ∙ ap (λ (l : List ℕ). getD l i 0) e ∙ behind begin (ticks-word ++ (line-end ∷ [])) 3 in
-    let none : other (getD u i 0) ≡ true = at-place u i (then lines (up-to-k m) clean (front m)) inside in
+    sym (List·getD-append u from-k 0 i inside) ∙ sym (ap (λ (l : List ℕ). getD l i 0) whole) ∙ sym (getD-take n t i 0 (omega (arith, taken)))
+    ∙ ap (λ (l : List ℕ). getD l i 0) e ∙ getD-append-add begin (ticks-word ++ (line-end ∷ [])) 3 0 in
+    let none : other (getD u i 0) ≡ true = all-at other u i (then lines (up-to-k m) clean (front m)) inside in
     true≢false (sym none ∙ rw k)
 
 -- so of the lines of rows and the last

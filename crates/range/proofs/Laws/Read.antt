@@ -1,6 +1,6 @@
 -- The last number in what is printed is that of its last line. Assumes nothing.
-use mathlib.Core.Path.{_≡_, refl, sym, _∙_, ap}
-use mathlib.Core.Bool.{Bool, true, false, _&&_, true≢false}
+use mathlib.Core.Path.{_≡_, refl, _∙_, ap}
+use mathlib.Core.Bool.{Bool, true, false}
 use mathlib.Core.List.{List, [], _∷_, _++_, append-assoc}
 use Prim.Native.Nat.{ℕ, _+_, _*_, _^_, _<_}
 use native.Mathlib.Omega.{arith}
@@ -8,6 +8,7 @@ use lib.ListN.{length}
 use Rattle.lines.specs.Number.{decimal}
 use Rattle.lines.specs.Line.{space, line-end}
 use Rattle.lines.specs.Promises.{is-digit, value-of, all-are, spelt-from, spelt, Decimal-right}
+use Rattle.lines.proofs.Laws.All.{both}
 use Rattle.lines.proofs.Promises.{decimal-right}
 use Rattle.search_lines.specs.Text.{ticks-word, largest-text}
 use Rattle.range.specs.Read.{read-from, last-number}
@@ -24,16 +25,12 @@ unfolding read-from is-digit
 read-spaced n w [] hs = refl
 read-spaced n w (g ∷ gs) hs = read-spaced _ _ gs hs
 
-both-hold : (a b : Bool) → (a && b) ≡ true → (a ≡ true) × (b ≡ true)
-both-hold true b e = (refl, e)
-both-hold false b e = absurd (true≢false (sym e))
-
 -- digits are read as what they spell
 read-digits : (n : ℕ) (gs : List ℕ) → all-are is-digit gs ≡ true → read-from n true gs ≡ spelt-from 10 n gs
 unfolding read-from all-are spelt-from
 read-digits n [] e = refl
 read-digits n (g ∷ gs) e =
-    let (d, ds) = both-hold (is-digit g) (all-are is-digit gs) e in
+    let (d, ds) = both (is-digit g) (all-are is-digit gs) e in
     rw d (read-digits (n * 10 + value-of g) gs ds)
 
 -- so are those of a number that begins, whatever was read before
@@ -41,7 +38,7 @@ read-anew : (m : ℕ) (gs : List ℕ) → 0 < length gs → all-are is-digit gs 
 unfolding read-from all-are spelt-from
 read-anew m [] i e = absurd (omega (arith, i))
 read-anew m (g ∷ gs) i e =
-    let (d, ds) = both-hold (is-digit g) (all-are is-digit gs) e in
+    let (d, ds) = both (is-digit g) (all-are is-digit gs) e in
     rw d (read-digits (0 + value-of g) gs ds)
 
 read-decimal : (m n : ℕ) → n < 10 ^ 20 → read-from m false (decimal n) ≡ n
