@@ -23,6 +23,8 @@ ghost use Rattle.places.specs.Links.{link-of};
 ghost use Rattle.layout.specs.Words.{settings-from, stamps-in, wall-in};
 ghost use Rattle.calls.specs.Answers.{forwarded-left, ends-left, side-left, halves-left, gap-left, reach-number, reach-left, survey-number, survey-left, columns-number, columns-left, row-seam-number, row-seam-columns, row-seam-side, row-seam-halves, mark-number, mark-left, link-number, link-left};
 ghost use Rattle.wall_calls.specs.Answers.{step-answer, next-left, step-number, wall-left, offset-left};
+ghost use Rattle.waves.specs.Wave.{wave};
+ghost use Rattle.wave_calls.specs.Answers.{start-number, start-left, wave-number, wave-left, wave-side, wave-halves, ask-number, half-ticks-left, ticks-left};
 
 #[no_mangle]
 pub extern "C" fn polzaintu_settings_refusal(settings: &[u64; 7]) -> u32
@@ -257,6 +259,47 @@ pub extern "C" fn polzaintu_wall_step(
     ensures offset { λ r. ⌜ now (offset .exit) ≡ offset-left (step-answer (now (wall .entry)) (now (part .entry)) (now (row .entry)) (length (now (next .entry)))) (now (offset .entry)) ⌝ }
 {
     wall_calls::step(wall, part, row, next, offset)
+}
+
+// Begins the last n waves of a seam.
+#[no_mangle]
+pub extern "C" fn polzaintu_waves_start(n: u64, waves: &mut [u64; 66]) -> u32
+    ensures number { λ r. ⌜ r ≡ start-number n ⌝ }
+    ensures waves { λ r. ⌜ now (waves .exit) ≡ start-left n (now (waves .entry)) ⌝ }
+{
+    wave_calls::start(n, waves)
+}
+
+#[no_mangle]
+pub extern "C" fn polzaintu_waves_hand_in(
+    waves: &mut [u64; 66],
+    left: u64,
+    left_faulty: bool,
+    right: u64,
+    right_faulty: bool,
+    side: &mut u32,
+    halves: &mut [f64; 2],
+) -> u32
+    ensures number { λ r. ⌜ r ≡ wave-number (now (waves .entry)) (wave left «left_faulty» right «right_faulty») ⌝ }
+    ensures waves { λ r. ⌜ now (waves .exit) ≡ wave-left (now (waves .entry)) (wave left «left_faulty» right «right_faulty») ⌝ }
+    ensures side { λ r. ⌜ now (side .exit) ≡ wave-side (now (waves .entry)) (wave left «left_faulty» right «right_faulty») (now (side .entry)) ⌝ }
+    ensures halves { λ r. ⌜ now (halves .exit) ≡ wave-halves (now (waves .entry)) (wave left «left_faulty» right «right_faulty») (now (halves .entry)) ⌝ }
+{
+    wave_calls::hand_in(waves, left, left_faulty, right, right_faulty, side, halves)
+}
+
+// The largest and the smallest half gap, in half ticks and in ticks.
+#[no_mangle]
+pub extern "C" fn polzaintu_waves_ask(
+    waves: &[u64; 66],
+    half_ticks: &mut [i64; 2],
+    ticks: &mut [f64; 2],
+) -> u32
+    ensures number { λ r. ⌜ r ≡ ask-number (now (waves .entry)) ⌝ }
+    ensures half_ticks { λ r. ⌜ now («half_ticks» .exit) ≡ half-ticks-left (now (waves .entry)) (now («half_ticks» .entry)) ⌝ }
+    ensures ticks { λ r. ⌜ now (ticks .exit) ≡ ticks-left (now (waves .entry)) (now (ticks .entry)) ⌝ }
+{
+    wave_calls::ask(waves, half_ticks, ticks)
 }
 
 // The version as one number.

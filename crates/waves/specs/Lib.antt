@@ -1,0 +1,3 @@
+pub mod Wave
+pub mod Reading
+pub mod State

@@ -1,0 +1,111 @@
+-- The state as words, and what each operation makes of any. Assumes nothing.
+use mathlib.Core.Bool.{Bool, cond, _&&_}
+use mathlib.Core.List.{List, [], _∷_}
+use mathlib.Core.Option.{Option, none, some}
+use mathlib.Core.Path.{_≡_}
+use Prim.Native.Nat.{ℕ, suc, _+_, _-_, _≤_, _<_, min, max}
+use lib.Dec.{eqb, leb, ltb}
+use lib.IntN.{ℤ, pos, _-ℤ_}
+use lib.ListN.{getD, set, take, replicate}
+use Rattle.settings.specs.Refusal.{outside}
+use Rattle.seam.specs.declared.Seam.{Seam}
+use Rattle.seam.specs.declared.Seam.the-variants as seam
+use Rattle.waves.specs.Wave.{Wave, answer}
+use Rattle.waves.specs.Reading.{with-some, half-gap, extremes}
+use Rattle.waves.specs.declared.Waves.{Waves}
+use Rattle.waves.specs.declared.Started.{Started}
+use Rattle.waves.specs.declared.HandedIn.{HandedIn}
+use Rattle.waves.specs.declared.«half_gap».HalfGap.{HalfGap}
+use Rattle.waves.specs.declared.Extremes.{Extremes}
+use Rattle.waves.specs.declared.Extremes.the-variants.{Of, Refused}
+use Rattle.waves.specs.declared.ends.Ends.{Ends}
+
+-- §E1.6 n, in word 64
+unfoldable pub size : Waves → ℕ
+size s = getD (s .words) 64 0
+
+-- §E1.6 the place of the next wave, in word 65
+unfoldable pub next : Waves → ℕ
+next s = getD (s .words) 65 0
+
+-- §E1.6 there are at most 64 places, and the next wave's is one of them
+unfoldable pub fits : Waves → Bool
+fits s = leb (size s) 64 && ltb (next s) (size s)
+
+-- §E1.6 n and no wave
+unfoldable pub blank : (n : ℕ) → Waves
+blank n = record { words = set (replicate 66 0) 64 n }
+
+-- §E1.1 n waves at most, 1 to 64, or 51 and a state without a place
+unfoldable pub started : (n : ℕ) → Started
+started n = cond (outside 1 64 n) (record { number = 51; waves = blank 0 }) (record { number = 0; waves = blank n })
+
+-- §E1.6 the word of a gap: right less left, and 2^41
+unfoldable pub word-of : (left right : ℕ) → ℕ
+word-of l r = 2199023255552 + r - l
+
+-- §E1.6 the word of a wave: 0 for an open one
+unfoldable pub seam-word : Seam → (left right : ℕ) → ℕ
+seam-word (seam.Closed h) l r = word-of l r
+seam-word (seam.Open s) l r = 0
+seam-word (seam.Refused n) l r = 0
+
+-- §E1.6 the place after a place, the first after the last
+unfoldable pub following : (place n : ℕ) → ℕ
+following i n = cond (eqb (suc i) n) 0 (suc i)
+
+-- §E1.2 the next place taken; a state that does not fit stays
+unfoldable pub put : Waves → (word : ℕ) → Waves
+put s x = cond (fits s) (record { words = set (set (s .words) (next s) x) 65 (following (next s) (size s)) }) s
+
+-- §E1.2 the state after a wave that the seam operation answers so
+unfoldable pub moved : Waves → Seam → (left right : ℕ) → Waves
+moved s (seam.Closed h) l r = put s (word-of l r)
+moved s (seam.Open o) l r = put s 0
+moved s (seam.Refused n) l r = s
+
+-- §E1.2 one wave more: the state after it, and the seam
+unfoldable pub handed : Waves → Wave → HandedIn
+handed s w = record { waves = moved s (answer w) (w .left) (w .right); seam = answer w }
+
+-- §E1.6 a word is that of a gap
+unfoldable pub Gap-word : ℕ → Type 0
+Gap-word x = (0 < x) × (x < 4398046511104)
+
+-- §E1.6 the gap of a word; every other word gives no number
+unfoldable pub gap-at : (word : ℕ) → Option ℤ
+gap-at x = cond (ltb 0 x && ltb x 4398046511104) (some (pos x -ℤ pos 2199023255552)) none
+
+-- §E1.6 the gaps of words
+unfoldable pub gaps-at : List ℕ → List ℤ
+gaps-at [] = []
+gaps-at (x ∷ xs) = with-some (gap-at x) (gaps-at xs)
+
+-- §E1.6 the places in use, none where the state does not fit
+unfoldable pub places : Waves → List ℕ
+places s = cond (fits s) (take (size s) (s .words)) []
+
+-- §E1.3 the answer to the question, of any state
+unfoldable pub asked : Waves → Extremes
+asked s = extremes (gaps-at (places s))
+
+-- §E1.6 the half gap of a word
+unfoldable pub half-gap-at : (word : ℕ) → HalfGap
+half-gap-at x = half-gap (pos x -ℤ pos 2199023255552)
+
+-- §E1.6 the larger and the smaller word, where one more is a gap's
+unfoldable pub with-word : (word : ℕ) → Ends → Ends
+with-word x e = cond (ltb 0 x && ltb x 4398046511104) (record { largest = max x (e .largest); smallest = min x (e .smallest) }) e
+
+-- §E1.6 the largest and the smallest word of gaps; of none, 0 and 2^42
+unfoldable pub ends-of : List ℕ → Ends
+ends-of [] = record { largest = 0; smallest = 4398046511104 }
+ends-of (x ∷ xs) = with-word x (ends-of xs)
+
+-- §E1.6 both are the words of gaps, or there is none
+unfoldable pub Told-words : Ends → Type 0
+Told-words e = (0 < e .largest) → Gap-word (e .largest) × Gap-word (e .smallest)
+
+-- §E1.6 the answer that they make
+unfoldable pub told : Ends → Extremes
+told e = cond (eqb (e .largest) 0) (Refused 52) (Of (half-gap-at (e .largest)) (half-gap-at (e .smallest)))
