@@ -1,3 +1,6 @@
 pub mod Wave
 pub mod Reading
 pub mod State
+pub mod Program
+pub mod Promises
+pub mod Cases

@@ -1,12 +1,12 @@
 -- The state as words, and what each operation makes of any. Assumes nothing.
-use mathlib.Core.Bool.{Bool, cond, _&&_}
-use mathlib.Core.List.{List, [], _∷_}
+use mathlib.Core.Bool.{Bool, false, cond, _&&_}
+use mathlib.Core.List.{List, [], _∷_, _++_}
 use mathlib.Core.Option.{Option, none, some}
 use mathlib.Core.Path.{_≡_}
-use Prim.Native.Nat.{ℕ, suc, _+_, _-_, _≤_, _<_, min, max}
+use Prim.Native.Nat.{ℕ, zero, suc, _+_, _-_, min, max}
 use lib.Dec.{eqb, leb, ltb}
 use lib.IntN.{ℤ, pos, _-ℤ_}
-use lib.ListN.{getD, set, take, replicate}
+use lib.ListN.{getD, set, replicate}
 use Rattle.settings.specs.Refusal.{outside}
 use Rattle.seam.specs.declared.Seam.{Seam}
 use Rattle.seam.specs.declared.Seam.the-variants as seam
@@ -68,22 +68,31 @@ moved s (seam.Refused n) l r = s
 unfoldable pub handed : Waves → Wave → HandedIn
 handed s w = record { waves = moved s (answer w) (w .left) (w .right); seam = answer w }
 
--- §E1.6 a word is that of a gap
-unfoldable pub Gap-word : ℕ → Type 0
-Gap-word x = (0 < x) × (x < 4398046511104)
+-- §E1.6 a word is that of no gap: the words of gaps are 1 to 2^42 - 1
+unfoldable pub no-gap : (word : ℕ) → Bool
+no-gap x = outside 1 4398046511103 x
 
--- §E1.6 the gap of a word; every other word gives no number
+-- §E1.6 the gap of a word
+unfoldable pub level : (word : ℕ) → ℤ
+level x = pos x -ℤ pos 2199023255552
+
+-- §E1.6 the gap of a word that is a gap's; every other gives no number
 unfoldable pub gap-at : (word : ℕ) → Option ℤ
-gap-at x = cond (ltb 0 x && ltb x 4398046511104) (some (pos x -ℤ pos 2199023255552)) none
+gap-at x = cond (no-gap x) none (some (level x))
 
 -- §E1.6 the gaps of words
 unfoldable pub gaps-at : List ℕ → List ℤ
 gaps-at [] = []
 gaps-at (x ∷ xs) = with-some (gap-at x) (gaps-at xs)
 
+-- §E1.6 the first n words
+unfoldable pub front : (n : ℕ) → List ℕ → List ℕ
+front zero ws = []
+front (suc n) ws = front n ws ++ (getD ws n 0 ∷ [])
+
 -- §E1.6 the places in use, none where the state does not fit
 unfoldable pub places : Waves → List ℕ
-places s = cond (fits s) (take (size s) (s .words)) []
+places s = cond (fits s) (front (size s) (s .words)) []
 
 -- §E1.3 the answer to the question, of any state
 unfoldable pub asked : Waves → Extremes
@@ -91,11 +100,11 @@ asked s = extremes (gaps-at (places s))
 
 -- §E1.6 the half gap of a word
 unfoldable pub half-gap-at : (word : ℕ) → HalfGap
-half-gap-at x = half-gap (pos x -ℤ pos 2199023255552)
+half-gap-at x = half-gap (level x)
 
--- §E1.6 the larger and the smaller word, where one more is a gap's
+-- §E1.6 the ends with one word more, where it is a gap's
 unfoldable pub with-word : (word : ℕ) → Ends → Ends
-with-word x e = cond (ltb 0 x && ltb x 4398046511104) (record { largest = max x (e .largest); smallest = min x (e .smallest) }) e
+with-word x e = cond (no-gap x) e (record { largest = max x (e .largest); smallest = min x (e .smallest) })
 
 -- §E1.6 the largest and the smallest word of gaps; of none, 0 and 2^42
 unfoldable pub ends-of : List ℕ → Ends
@@ -104,7 +113,7 @@ ends-of (x ∷ xs) = with-word x (ends-of xs)
 
 -- §E1.6 both are the words of gaps, or there is none
 unfoldable pub Told-words : Ends → Type 0
-Told-words e = (0 < e .largest) → Gap-word (e .largest) × Gap-word (e .smallest)
+Told-words e = (e .largest ≡ 0 → ⊥) → (no-gap (e .largest) ≡ false) × (no-gap (e .smallest) ≡ false)
 
 -- §E1.6 the answer that they make
 unfoldable pub told : Ends → Extremes

@@ -1,10 +1,9 @@
 -- One wave of a seam: what is handed in, what the seam operation answers, and the gap that it holds. Assumes nothing.
-use mathlib.Core.Bool.{Bool, not}
+use mathlib.Core.Bool.{Bool, true, false}
 use mathlib.Core.Option.{Option, none, some}
 use Prim.Native.Nat.{ℕ}
-use lib.Dec.{eqb}
 use lib.IntN.{ℤ, pos, _-ℤ_}
-use Rattle.seam.specs.Seam.{seam-of, number-of}
+use Rattle.seam.specs.Seam.{seam-of}
 use Rattle.seam.specs.declared.Seam.{Seam}
 use Rattle.seam.specs.declared.Seam.the-variants.{Closed, Open, Refused}
 
@@ -23,9 +22,15 @@ wave l lf r rf = record { left = l; left-faulty = lf; right = r; right-faulty = 
 unfoldable pub answer : Wave → Seam
 answer w = seam-of (w .left) (w .left-faulty) (w .right) (w .right-faulty)
 
--- §E1.2 it is turned away there
+-- §E1.2 the seam operation's answer is a refusal
+unfoldable pub is-refused : Seam → Bool
+is-refused (Closed h) = false
+is-refused (Open s) = false
+is-refused (Refused n) = true
+
+-- §E1.2 a wave is turned away there
 unfoldable pub refused : Wave → Bool
-refused w = not (eqb (number-of (answer w)) 0)
+refused w = is-refused (answer w)
 
 -- §E1.3 a closed seam has the gap, an open one gives no number
 unfoldable pub where-closed : Seam → (gap : ℤ) → Option ℤ

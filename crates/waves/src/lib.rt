@@ -9,9 +9,8 @@ use half_gap::word;
 use seam::Seam;
 ghost use mathlib.Core.Path.{_≡_};
 ghost use Prim.Native.Nat.{_≤_, _<_};
-ghost use lib.ListN.{take};
 ghost use Rattle.waves.specs.Wave.{wave};
-ghost use Rattle.waves.specs.State.{size, fits, put, following, started, handed, ends-of, asked};
+ghost use Rattle.waves.specs.State.{size, fits, put, following, started, handed, front, ends-of, asked};
 
 // Words 0 to 63 are places: 0 for an open wave or none, otherwise the gap in ticks and 2^41. The first n of them are in
 // use. Word 64 is n, word 65 the place of the next wave, which is that of the oldest once n are held.
@@ -123,7 +122,7 @@ impl Waves {
     // The ends of the gaps held.
     fn ends(self) -> Ends
         requires { ⌜ size self ≤ 64 ⌝ }
-        ensures { λ r. ⌜ r ≡ ends-of (take (size self) (self .words)) ⌝ }
+        ensures { λ r. ⌜ r ≡ ends-of (front (size self) (self .words)) ⌝ }
     {
         let n = self.words[64] as usize;
         let mut ends = Ends::NONE;
