@@ -5,7 +5,7 @@ use waves::Extremes;
 use waves::Waves;
 ghost use mathlib.Core.Path.{_≡_};
 ghost use Rattle.waves.specs.Wave.{wave};
-ghost use Rattle.wave_calls.specs.Answers.{start-number, start-left, wave-number, wave-left, wave-side, wave-halves, ask-number, half-ticks-left, ticks-left};
+ghost use Rattle.wave_calls.specs.Answers.{start-number, start-left, wave-number, wave-left, wave-side, wave-halves, extremes-number, ask-number, extremes-half-ticks, extremes-ticks, half-ticks-left, ticks-left};
 
 pub fn start(n: u64, words: &mut [u64; 66]) -> u32
     ensures number { λ r. ⌜ r ≡ start-number n ⌝ }
@@ -16,7 +16,9 @@ pub fn start(n: u64, words: &mut [u64; 66]) -> u32
     if number != 0 {
         return number;
     }
-    *words = started.waves.words;
+    let waves = started.waves;
+    let first = waves.words;
+    *words = first;
     0
 }
 
@@ -37,8 +39,11 @@ pub fn hand_in(
     let waves = Waves { words: *words };
     if waves.fits() {
         let handed = waves.hand_in(left, left_faulty, right, right_faulty);
-        *words = handed.waves.words;
-        return calls::seam_left(handed.seam, side, halves);
+        let moved = handed.waves;
+        let after = moved.words;
+        *words = after;
+        let seam = handed.seam;
+        return calls::seam_left(seam, side, halves);
     }
     UNFIT
 }
@@ -50,14 +55,23 @@ pub fn ask(words: &[u64; 66], half_ticks: &mut [i64; 2], ticks: &mut [f64; 2]) -
 {
     let waves = Waves { words: *words };
     if waves.fits() {
-        match waves.ask() {
-            Extremes::Of { largest, smallest } => {
-                *half_ticks = [largest.half_ticks, smallest.half_ticks];
-                *ticks = [largest.ticks, smallest.ticks];
-                return 0;
-            }
-            Extremes::Refused(number) => return number,
-        }
+        return extremes_left(waves.ask(), half_ticks, ticks);
     }
     UNFIT
+}
+
+// The largest and the smallest, in half ticks and in ticks.
+fn extremes_left(extremes: Extremes, half_ticks: &mut [i64; 2], ticks: &mut [f64; 2]) -> u32
+    ensures number { λ r. ⌜ r ≡ extremes-number extremes ⌝ }
+    ensures half_ticks { λ r. ⌜ now («half_ticks» .exit) ≡ extremes-half-ticks extremes (now («half_ticks» .entry)) ⌝ }
+    ensures ticks { λ r. ⌜ now (ticks .exit) ≡ extremes-ticks extremes (now (ticks .entry)) ⌝ }
+{
+    match extremes {
+        Extremes::Of { largest, smallest } => {
+            *half_ticks = [largest.half_ticks, smallest.half_ticks];
+            *ticks = [largest.ticks, smallest.ticks];
+            0
+        }
+        Extremes::Refused(number) => number,
+    }
 }

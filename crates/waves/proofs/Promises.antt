@@ -92,7 +92,7 @@ unmoved s l r (seam.Refused n) e = refl
 
 pub unfit-kept : Unfit-kept
 unfolding Unfit-kept handed asked places gaps-at extremes
-unfit-kept s w e = (unmoved s (w .left) (w .right) (answer w) e, refl, rw e)
+unfit-kept s e = (λ w. (unmoved s (w .left) (w .right) (answer w) e, refl), rw e)
 
 pub extremes-right : Extremes-right
 unfolding Extremes-right

@@ -70,4 +70,4 @@ Same-half-gap =
 
 -- §E1.6 a state that does not fit stays as it is, and holds no wave
 unfoldable pub Unfit-kept : Type 0
-Unfit-kept = (s : Waves) (w : Wave) → fits s ≡ false → (handed s w .waves ≡ s) × (handed s w .seam ≡ answer w) × (asked s ≡ Refused 52)
+Unfit-kept = (s : Waves) → fits s ≡ false → ((w : Wave) → (handed s w .waves ≡ s) × (handed s w .seam ≡ answer w)) × (asked s ≡ Refused 52)
