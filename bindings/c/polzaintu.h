@@ -44,7 +44,7 @@ extern "C" {
 
 /* The version of this header; polzaintu_version answers that of the archive. */
 #define POLZAINTU_VERSION_MAJOR 0
-#define POLZAINTU_VERSION_MINOR 2
+#define POLZAINTU_VERSION_MINOR 3
 #define POLZAINTU_VERSION_PATCH 0
 
 /* The version as one number, which grows from version to version. */
