@@ -44,7 +44,7 @@ extern "C" {
 
 /* The version of this header; polzaintu_version answers that of the archive. */
 #define POLZAINTU_VERSION_MAJOR 0
-#define POLZAINTU_VERSION_MINOR 2
+#define POLZAINTU_VERSION_MINOR 3
 #define POLZAINTU_VERSION_PATCH 0
 
 /* The version as one number, which grows from version to version. */
@@ -57,12 +57,14 @@ POLZAINTU_ANSWER uint32_t polzaintu_version(void);
 /* A silent sender, as a stamp and as a link value. */
 #define POLZAINTU_SILENT UINT64_MAX
 
-/* What was lent fits no wall: an answer apart from the numbers. */
+/* What was lent does not fit: an answer apart from the numbers. */
 #define POLZAINTU_UNFIT UINT32_MAX
 
-/* The most tiles of a row, and the most bytes that a step of a wall file is to be given. */
+/* The most tiles of a row, the most bytes that a step of a wall file is to be given, and the most
+ * waves of a seam that are held. */
 #define POLZAINTU_WIDTH_MOST 256
 #define POLZAINTU_DUE_MOST 6710
+#define POLZAINTU_WAVES_MOST 64
 
 /* The words of an answer. */
 POLZAINTU_ANSWER static inline const char *polzaintu_words(uint32_t number) {
@@ -119,9 +121,13 @@ POLZAINTU_ANSWER static inline const char *polzaintu_words(uint32_t number) {
         return "the file goes on after its last field";
     case 45:
         return "a time of row 0 is above 2^39 - 1";
+    case 51:
+        return "n is outside 1 to 64";
+    case 52:
+        return "no closed wave is held";
     /* numbers.tsv: end */
     case POLZAINTU_UNFIT:
-        return "what was lent fits no wall";
+        return "what was lent does not fit";
     default:
         return "no such number";
     }
@@ -259,6 +265,55 @@ POLZAINTU_ANSWER uint32_t polzaintu_row_seam(const polzaintu_settings *settings,
                                              polzaintu_pair *columns, uint32_t *side,
                                              polzaintu_halves *halves);
 
+/* ---- The last waves of a seam: §E1.1 to §E1.7 ----
+ *
+ * Of one seam the last n waves are held: the largest and the smallest half gap of those that are
+ * closed can be asked for at any time. */
+
+/* The waves held; polzaintu_waves_start and polzaintu_waves_hand_in alone write it. It may be
+ * copied: each copy goes on by itself. */
+typedef struct {
+    uint64_t gaps[POLZAINTU_WAVES_MOST]; /* the first n are in use, one for each wave held: right
+                                            time minus left time plus 2^41, so 1 to 2^42 - 1, or 0
+                                            for an open wave or none; any other gives no number */
+    uint64_t n;                          /* how many waves are held at most: 1 to 64 */
+    uint64_t next;                       /* the place that the next wave takes: 0 to n - 1 */
+} polzaintu_waves;
+
+/* Signed half gaps in half ticks: as many as right time minus left time has ticks. */
+typedef struct {
+    int64_t largest, smallest;
+} polzaintu_half_ticks;
+
+/* The same in ticks, as half_gap of polzaintu_halves: exact, and a gap of 0 is plus zero. */
+typedef struct {
+    double largest, smallest;
+} polzaintu_half_gaps;
+
+/* Begins with no wave; at most n are to be held. Writes the waves.
+ *
+ * Answers 0; 51. */
+POLZAINTU_ANSWER uint32_t polzaintu_waves_start(uint64_t n, polzaintu_waves *waves);
+
+/* Hands in the next wave, as polzaintu_seam is given it. Writes the side and the halves as that
+ * does, and the waves: an open one takes a place too, and once n are held each takes that of the
+ * oldest. One that is turned away takes none.
+ *
+ * Answers 0; POLZAINTU_UNFIT where *waves was never started: n is over 64, or next not below n;
+ * 31. */
+POLZAINTU_ANSWER uint32_t polzaintu_waves_hand_in(polzaintu_waves *waves, uint64_t left,
+                                                  bool left_faulty, uint64_t right,
+                                                  bool right_faulty, uint32_t *side,
+                                                  polzaintu_halves *halves);
+
+/* The largest and the smallest half gap of the closed waves held. Writes both, in half ticks and in
+ * ticks.
+ *
+ * Answers 0; POLZAINTU_UNFIT as above; 52. */
+POLZAINTU_ANSWER uint32_t polzaintu_waves_ask(const polzaintu_waves *waves,
+                                              polzaintu_half_ticks *half_ticks,
+                                              polzaintu_half_gaps *half_gaps);
+
 /* ---- How far one broken tile reaches: §12.3, §15.1 to §15.3 ---- */
 
 /* Writes B of a row's W times to gap: how far apart two neighbours pulse at most.
@@ -394,6 +449,9 @@ static_assert(sizeof(polzaintu_forwarded) == 3 * 8, "three words");
 static_assert(sizeof(polzaintu_ends) == 2 * 8, "two words");
 static_assert(sizeof(polzaintu_halves) == 2 * 8, "two words");
 static_assert(sizeof(polzaintu_pair) == 2 * 8, "two words");
+static_assert(sizeof(polzaintu_waves) == 66 * 8, "sixty-six words");
+static_assert(sizeof(polzaintu_half_ticks) == 2 * 8, "two words");
+static_assert(sizeof(polzaintu_half_gaps) == 2 * 8, "two words");
 static_assert(sizeof(polzaintu_range) == 3 * 8, "three words");
 static_assert(sizeof(polzaintu_broken) == 3 * 8, "three words");
 static_assert(sizeof(polzaintu_broken_in_row) == 4 * 8, "four words");

@@ -48,6 +48,8 @@ int main(void) {
     tile_tests();
     row_tests();
     seam_tests();
+    waves_tests();
+    waves_reading_tests();
     places_tests();
     reach_tests();
     empty_tests();

@@ -1,7 +1,8 @@
 //! A plain reference for the requirements (docs/REQUIREMENTS.md) of the pulse planner for detector walls.
 //!
 //! Each module renders one section of them: settings, clocks, the forwarding rule, the tile, the wall's
-//! shape, the row, the seam, the wall file and its printing, how far a faulty tile reaches, and the words of a call.
+//! shape, the row, the seam, the wall file and its printing, how far a faulty tile reaches, the words of a call,
+//! and the last waves of a seam.
 //! All sums are made in 128-bit signed numbers, far from any overflow. `generate` and `cases` are no part of
 //! the reference: they make wall files to compare programs on.
 
@@ -18,6 +19,7 @@ pub mod seam;
 pub mod settings;
 pub mod shape;
 pub mod tile;
+pub mod waves;
 
 use std::fmt;
 

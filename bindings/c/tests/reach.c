@@ -118,7 +118,7 @@ static void no_range(polzaintu_settings settings, uint64_t gap, uint64_t rows, u
 static void range_numbers(void) {
     for (size_t i = 0; i < REFUSED_SETTINGS_COUNT; i++) {
         no_range(REFUSED_SETTINGS[i].settings, 0, 1, 0, REFUSED_SETTINGS[i].number);
-        /* It fits no wall either. */
+        /* It does not fit either. */
         no_range(REFUSED_SETTINGS[i].settings, UINT64_MAX, 0, UINT64_MAX,
                  REFUSED_SETTINGS[i].number);
     }

@@ -36,6 +36,8 @@ void settings_tests(void);
 void tile_tests(void);
 void row_tests(void);
 void seam_tests(void);
+void waves_tests(void);
+void waves_reading_tests(void);
 void places_tests(void);
 void reach_tests(void);
 void empty_tests(void);

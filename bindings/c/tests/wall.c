@@ -1,4 +1,4 @@
-/* A wall file by steps: what each step leaves, and what fits no wall. */
+/* A wall file by steps: what each step leaves, and what does not fit. */
 #include "wall_file.h"
 
 #include <string.h>
@@ -102,7 +102,7 @@ static void surveyed_wall(void) {
     CHECK(survey.gap == 36 && survey.largest == 2 * 80 + 8 * 12 + 1);
 }
 
-/* A step that is lent so much of the file fits no wall, and changes nothing. */
+/* A step that is lent so much of the file does not fit, and changes nothing. */
 static void unfit_part(struct walk walk, size_t part_len, size_t row_len, size_t next_len) {
     struct wall_file file = small_wall();
     const struct wall_file lent = file;

@@ -15,7 +15,7 @@ use std::mem::size_of;
 /// A silent sender, as a stamp and as a link value.
 pub const SILENT: u64 = u64::MAX;
 
-/// What was lent fits no wall.
+/// What was lent does not fit.
 pub const UNFIT: u32 = u32::MAX;
 
 /// Own's stamp, the neighbours', and how many of those there are.
@@ -68,6 +68,31 @@ pub struct Pair {
     pub right: u64,
 }
 
+/// The last waves of a seam: the gap of each, how many are held at most, and the place of the next.
+#[repr(C)]
+#[derive(Clone, Copy, Debug, PartialEq, Eq)]
+pub struct Waves {
+    pub gaps: [u64; 64],
+    pub n: u64,
+    pub next: u64,
+}
+
+/// The largest and smallest half gap, in half ticks.
+#[repr(C)]
+#[derive(Default)]
+pub struct HalfTicks {
+    pub largest: i64,
+    pub smallest: i64,
+}
+
+/// The same in ticks.
+#[repr(C)]
+#[derive(Default)]
+pub struct HalfGaps {
+    pub largest: f64,
+    pub smallest: f64,
+}
+
 /// A broken tile, and how many rows below it a search looks.
 #[repr(C)]
 pub struct Broken {
@@ -112,6 +137,9 @@ const _: () = assert!(size_of::<Ends>() == 2 * 8);
 const _: () = assert!(size_of::<Halves>() == 2 * 8);
 const _: () = assert!(size_of::<Range>() == 3 * 8);
 const _: () = assert!(size_of::<Pair>() == 2 * 8);
+const _: () = assert!(size_of::<Waves>() == 66 * 8);
+const _: () = assert!(size_of::<HalfTicks>() == 2 * 8);
+const _: () = assert!(size_of::<HalfGaps>() == 2 * 8);
 const _: () = assert!(size_of::<Broken>() == 3 * 8);
 const _: () = assert!(size_of::<BrokenInRow>() == 4 * 8);
 const _: () = assert!(size_of::<Survey>() == 3 * 8);
@@ -145,6 +173,21 @@ extern "C" {
         right_faulty: bool,
         side: *mut u32,
         halves: *mut Halves,
+    ) -> u32;
+    fn polzaintu_waves_start(n: u64, waves: *mut Waves) -> u32;
+    fn polzaintu_waves_hand_in(
+        waves: *mut Waves,
+        left: u64,
+        left_faulty: bool,
+        right: u64,
+        right_faulty: bool,
+        side: *mut u32,
+        halves: *mut Halves,
+    ) -> u32;
+    fn polzaintu_waves_ask(
+        waves: *const Waves,
+        half_ticks: *mut HalfTicks,
+        half_gaps: *mut HalfGaps,
     ) -> u32;
     fn polzaintu_widest_gap(
         settings: *const Limits,
@@ -255,6 +298,30 @@ pub fn seam(
     // SAFETY: the side and the halves, which are written, are each behind a `&mut`; a Rust `bool`
     // is 0 or 1.
     unsafe { polzaintu_seam(left, left_faulty, right, right_faulty, side, halves) }
+}
+
+pub fn waves_start(n: u64, waves: &mut Waves) -> u32 {
+    // SAFETY: one struct behind a `&mut`, written.
+    unsafe { polzaintu_waves_start(n, waves) }
+}
+
+pub fn waves_hand_in(
+    waves: &mut Waves,
+    left: u64,
+    left_faulty: bool,
+    right: u64,
+    right_faulty: bool,
+    side: &mut u32,
+    halves: &mut Halves,
+) -> u32 {
+    // SAFETY: the waves, the side and the halves, which are written, are each behind a `&mut`; a
+    // Rust `bool` is 0 or 1.
+    unsafe { polzaintu_waves_hand_in(waves, left, left_faulty, right, right_faulty, side, halves) }
+}
+
+pub fn waves_ask(waves: &Waves, half_ticks: &mut HalfTicks, half_gaps: &mut HalfGaps) -> u32 {
+    // SAFETY: each struct is behind a reference; the two that are written are each behind a `&mut`.
+    unsafe { polzaintu_waves_ask(waves, half_ticks, half_gaps) }
 }
 
 pub fn widest_gap(settings: &Limits, row: &[u64], gap: &mut u64) -> u32 {

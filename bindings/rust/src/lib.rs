@@ -11,6 +11,7 @@
 //! - [`seam::join`]: the midpoint and half gap of two neighbouring tiles.
 //! - [`seam::row_seam`], [`row::marked`], [`row::link_place`]: where the seams, marks and links of a
 //!   row stand.
+//! - [`waves::Waves`]: the last waves of a seam, and the largest and smallest half gap among them.
 //! - [`reach`]: how far one broken tile reaches.
 //! - [`wall::Reader`]: the rows, the seams and the search range of a wall file; [`wall::Wall`] takes
 //!   one step by step.
@@ -45,6 +46,7 @@ pub mod seam;
 mod settings;
 pub mod tile;
 pub mod wall;
+pub mod waves;
 mod words;
 
 pub use refusal::Refusal;

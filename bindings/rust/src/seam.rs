@@ -52,7 +52,7 @@ pub fn join(left: Option<u64>, right: Option<u64>) -> Result<Seam, Refusal> {
 }
 
 impl Seam {
-    fn read(side: u32, halves: ffi::Halves) -> Seam {
+    pub(crate) fn read(side: u32, halves: ffi::Halves) -> Seam {
         let ffi::Halves { midpoint, half_gap } = halves;
         match side {
             0 => Seam::Closed { midpoint, half_gap },

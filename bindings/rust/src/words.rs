@@ -28,6 +28,8 @@ pub(crate) fn of(number: u32) -> &'static str {
         43 => "the file stops before the field due is complete",
         44 => "the file goes on after its last field",
         45 => "a time of row 0 is above 2^39 - 1",
+        51 => "n is outside 1 to 64",
+        52 => "no closed wave is held",
         // numbers.tsv: end
         _ => "no such number",
     }

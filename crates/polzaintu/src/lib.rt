@@ -305,7 +305,7 @@ pub extern "C" fn polzaintu_waves_ask(
 // The version as one number.
 #[no_mangle]
 pub extern "C" fn polzaintu_version() -> u32
-    ensures { λ r. ⌜ r ≡ 2000 ⌝ }
+    ensures { λ r. ⌜ r ≡ 3000 ⌝ }
 {
     version::NUMBER
 }

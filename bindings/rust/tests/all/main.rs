@@ -12,3 +12,4 @@ mod seam;
 mod settings;
 mod tile;
 mod wall;
+mod waves;

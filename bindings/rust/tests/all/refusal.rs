@@ -5,6 +5,7 @@ use polzaintu::row::{self, Lent};
 use polzaintu::seam;
 use polzaintu::tile::{self, Stamps};
 use polzaintu::wall::{Reader, Wall};
+use polzaintu::waves::Waves;
 use polzaintu::{Refusal, Settings};
 use std::error::Error as _;
 
@@ -106,4 +107,12 @@ fn files_say_where() {
 #[test]
 fn seams_say_what_is_wrong() {
     says(seam::join(Some(1 << 41), None).unwrap_err(), 31);
+}
+
+#[test]
+fn waves_say_what_is_wrong() {
+    says(Waves::start(65).unwrap_err(), 51);
+    let mut waves = Waves::start(64).unwrap();
+    says(waves.ask().unwrap_err(), 52);
+    says(waves.hand_in(Some(1 << 41), None).unwrap_err(), 31);
 }

@@ -1,0 +1,143 @@
+//! `beside [COUNT [FIRST_SEED]]` holds the crate against the reference on lists of calls: a list of
+//! each kind for each of COUNT seeds, 2000 from 0 where not said. Each call goes to both, and both
+//! must answer it alike. It stops at the first difference, with the seed and the calls so far.
+//!
+//! Words for the harness of the other tests, such as a filter, are none for this one:
+//! `cargo test --test all FILTER`.
+
+mod waves;
+
+use std::collections::BTreeSet;
+use std::env;
+use std::fmt::{self, Debug};
+use std::process::ExitCode;
+
+/// From so many seeds on, each answer that a kind names must have come up.
+const MANY: u64 = 1000;
+
+/// A kind of lists.
+struct Kind {
+    name: &'static str,
+    /// The answers that are to come up, by name.
+    answers: &'static [&'static str],
+    /// Runs the list of a seed through both.
+    run: fn(u64, &mut Tally) -> Result<(), Difference>,
+}
+
+const KINDS: [Kind; 1] = [Kind {
+    name: "waves",
+    answers: &waves::ANSWERS,
+    run: waves::run,
+}];
+
+/// An answer, of the crate as of the reference, with every bit that both give.
+trait Answer: Debug + PartialEq {
+    fn name(&self) -> &'static str;
+}
+
+/// A floating number, compared by its bits.
+#[derive(Clone, Copy, PartialEq, Eq)]
+struct Bits(u64);
+
+impl Bits {
+    fn of(number: f64) -> Bits {
+        Bits(number.to_bits())
+    }
+}
+
+impl Debug for Bits {
+    fn fmt(&self, f: &mut fmt::Formatter<'_>) -> fmt::Result {
+        write!(f, "{:016x} = {:?}", self.0, f64::from_bits(self.0))
+    }
+}
+
+/// What both have answered alike, over the lists of a kind.
+#[derive(Default)]
+struct Tally {
+    alike: u64,
+    met: BTreeSet<&'static str>,
+}
+
+impl Tally {
+    /// Compares the answers to the last of the calls so far.
+    fn compare<A: Answer>(
+        &mut self,
+        calls: &[impl Debug],
+        reference: &A,
+        library: &A,
+    ) -> Result<(), Difference> {
+        if reference != library {
+            return Err(Difference {
+                calls: calls.iter().map(|call| format!("{call:?}")).collect(),
+                reference: format!("{reference:?}"),
+                library: format!("{library:?}"),
+            });
+        }
+        self.alike += 1;
+        self.met.insert(reference.name());
+        Ok(())
+    }
+}
+
+/// A call that both don't answer alike, the last of these.
+struct Difference {
+    calls: Vec<String>,
+    reference: String,
+    library: String,
+}
+
+impl Difference {
+    fn tell(&self, kind: &str, seed: u64) {
+        println!("beside the reference: seed {seed}, a list of {kind}, the last call differs");
+        for call in &self.calls {
+            println!("  {call}");
+        }
+        println!("reference: {}", self.reference);
+        println!("library:   {}", self.library);
+    }
+}
+
+impl Kind {
+    /// How many answers are alike, over the lists of all seeds; `None` where one differs or never
+    /// comes up, which is told.
+    fn alike(&self, count: u64, first: u64) -> Option<u64> {
+        let mut tally = Tally::default();
+        for seed in (0..count).map(|i| first.wrapping_add(i)) {
+            if let Err(difference) = (self.run)(seed, &mut tally) {
+                difference.tell(self.name, seed);
+                return None;
+            }
+        }
+        let never = self.answers.iter().find(|name| !tally.met.contains(*name));
+        match never {
+            Some(answer) if count >= MANY => {
+                println!(
+                    "beside the reference: no list of {} met {answer}",
+                    self.name
+                );
+                None
+            }
+            _ => Some(tally.alike),
+        }
+    }
+}
+
+fn main() -> ExitCode {
+    let words: Option<Vec<u64>> = env::args().skip(1).map(|word| word.parse().ok()).collect();
+    let (count, first) = match words.as_deref() {
+        Some([]) => (2000, 0),
+        Some(&[count]) => (count, 0),
+        Some(&[count, first]) => (count, first),
+        _ => {
+            eprintln!("usage: beside [COUNT [FIRST_SEED]]");
+            return ExitCode::from(2);
+        }
+    };
+    let alike: Option<u64> = KINDS.iter().map(|kind| kind.alike(count, first)).sum();
+    let Some(alike) = alike else {
+        return ExitCode::FAILURE;
+    };
+    let lists = count * KINDS.len() as u64;
+    println!("beside the reference: {lists} lists of calls, {alike} answers alike");
+    ExitCode::SUCCESS
+}
