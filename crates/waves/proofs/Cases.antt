@@ -5,10 +5,10 @@ use mathlib.Core.List.{List, _∷_}
 use lib.Ieee.{toBits, round}
 use Rattle.settings.specs.Refusal.{outside}
 use Rattle.rule.specs.Signed.{larger, smaller}
-use Rattle.seam.specs.Seam.{half, halves, late, joined, seam-of}
+use Rattle.seam.specs.Seam.{half, late, joined, seam-of}
 use Rattle.waves.specs.Wave.{Wave, wave, answer, is-refused, refused, where-closed, gap-of}
 use Rattle.waves.specs.Reading.{taken, last, with-some, gaps, largest, smallest, half-gap, extremes, reading}
-use Rattle.waves.specs.State.{size, next, fits, blank, started, word-of, following, put, moved, handed, no-gap, level, gap-at, gaps-at, front, places, asked}
+use Rattle.waves.specs.State.{size, next, fits, blank, started, word-of, seam-word, word, following, put, handed, no-gap, signed, gap-at, gaps-at, front, places, asked}
 use Rattle.waves.specs.Program.{Call, hands-in, Calls, done, hand-in, ask}
 use Rattle.waves.specs.Cases.{closed, Reads, Start-cases, Window-cases, Open-cases, Refused-cases, Sign-cases, Bits-cases, state, Fit-cases, Word-cases, some-calls, Calls-witness}
 use Rattle.waves.specs.declared.Waves.{Waves}
@@ -42,7 +42,7 @@ unfolding Fit-cases fits size next state
 fit-cases = (refl, refl, refl, refl, refl, refl)
 
 pub word-cases : Word-cases
-unfolding Word-cases asked places fits size next state front gaps-at gap-at no-gap outside level with-some extremes largest smallest larger smaller
+unfolding Word-cases asked places fits size next state front gaps-at gap-at no-gap outside signed with-some extremes largest smallest larger smaller
 word-cases = (refl, refl, refl, refl)
 
 hand : {s : Waves} {cs : List Call} (w : Wave) → Calls (handed s w .waves) cs → Calls s (hands-in w (answer w) ∷ cs)
@@ -50,7 +50,7 @@ unfolding handed
 hand {s} w c = hand-in w (handed s w) refl c
 
 pub calls-witness : Calls-witness
-unfolding Calls-witness some-calls closed wave answer seam-of late joined handed moved put word-of following started blank outside asked places fits size next front gaps-at gap-at no-gap level with-some extremes largest smallest larger smaller
+unfolding Calls-witness some-calls closed wave answer refused is-refused seam-of late joined handed put word seam-word word-of following started blank outside asked places fits size next front gaps-at gap-at no-gap signed with-some extremes largest smallest larger smaller
 calls-witness =
     ask _ refl
     (hand (closed 0 9)

@@ -1,6 +1,8 @@
+-- The laws of the definitions, each file over one of them.
+pub mod Wave
 pub mod State
 pub mod Ends
-pub mod Wave
-pub mod Ring
-pub mod Window
 pub mod Extremes
+pub mod Ring
+pub mod Words
+pub mod Window

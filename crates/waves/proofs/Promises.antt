@@ -1,29 +1,29 @@
 -- The proofs of what specs/Promises.antt and specs/Program.antt state. Assumes nothing.
-use mathlib.Core.Path.{_≡_, refl, sym, _∙_, ap, subst}
-use mathlib.Core.Bool.{Bool, true, false}
+use mathlib.Core.Path.{_≡_, refl, _∙_, ap}
+use mathlib.Core.Bool.{Bool, true, false, cond}
 use mathlib.Core.List.{List, [], _∷_, _++_}
-use Prim.Native.Nat.{ℕ, zero, suc, _+_, _-_, _^_, _≤_, _<_}
+use Prim.Native.Nat.{ℕ, suc, _+_, _-_, _^_, _≤_, _<_}
 use native.Mathlib.Omega.{arith}
-use lib.IntN.{ℤ, pos, negsuc, negℤ, natAbs, _-ℤ_}
-use lib.ListN.{length, getD, drop, length-append}
+use lib.IntN.{ℤ, pos, negsuc, natAbs}
+use lib.ListN.{length, length-append}
 use lib.Seq.{drop-append-seam}
 use lib.Signed.{mag, ltZ}
 use Rattle.settings.proofs.Laws.Refusal.{within, below, above}
-use Rattle.rule.specs.Signed.{larger, smaller}
-use Rattle.seam.specs.Seam.{latest, half, halves, seam-of, number-of}
+use Rattle.seam.specs.Seam.{half, halves, number-of}
 use Rattle.seam.specs.declared.Seam.{Seam}
 use Rattle.seam.specs.declared.Seam.the-variants as seam
-use Rattle.waves.specs.Wave.{Wave, answer, gap-of, where-closed}
-use Rattle.waves.specs.Reading.{last, largest, smallest, half-gap, extremes, reading}
-use Rattle.waves.specs.State.{fits, blank, started, put, moved, handed, no-gap, level, gaps-at, places, asked, half-gap-at, ends-of, Told-words, told}
-use Rattle.waves.specs.Program.{Call, hands-in, asks, Calls, done, hand-in, ask, Read, Calls-read}
-use Rattle.waves.specs.Promises.{Start-numbers, Refused-kept, Last-exact, Largest, Smallest, Extremes-right, Exact, Answers-exact, Same-half-gap, Unfit-kept}
+use Rattle.waves.specs.Wave.{Wave, answer, is-refused, refused, gap-of, where-closed}
+use Rattle.waves.specs.Reading.{last, largest, smallest, half-gap, extremes}
+use Rattle.waves.specs.State.{fits, blank, started, put, word, handed, no-gap, signed, gaps-at, places, asked}
+use Rattle.waves.specs.Ends.{half-gap-at, ends-of, Told-words, told}
+use Rattle.waves.specs.Program.{Call, Calls, done, hand-in, ask, Read, Calls-read}
+use Rattle.waves.specs.Promises.{Start-numbers, Refused-kept, Last-exact, Extremes-right, Exact, Answers-exact, Same-half-gap, Unfit-kept}
 use Rattle.waves.specs.declared.Waves.{Waves}
 use Rattle.waves.specs.declared.Started.{Started}
 use Rattle.waves.specs.declared.«half_gap».HalfGap.{HalfGap}
 use Rattle.waves.specs.declared.Extremes.the-variants.{Of, Refused}
 use Rattle.waves.specs.declared.ends.Ends.{Ends}
-use Rattle.waves.proofs.Laws.Ends.{level-small, level-least, level-most, ends-told, told-words}
+use Rattle.waves.proofs.Laws.Ends.{signed-small, signed-least, signed-most, ends-told, told-words}
 use Rattle.waves.proofs.Laws.Wave.{closed-halves}
 use Rattle.settings.specs.Refusal.{outside}
 use Rattle.settings.proofs.Laws.Cases.{by-order, by-zero}
@@ -70,29 +70,25 @@ last-exact A xs ys n =
     let before : length (xs ++ ys) - length ys ≡ length xs = simp length-append (omega arith) in
     (rw before (drop-append-seam xs ys), λ i. let none-before : length xs - n ≡ 0 = omega arith in rw none-before)
 
-kept : (s : Waves) (l r : ℕ) (a : Seam) → number-of a ≡ 31 → moved s a l r ≡ s
-unfolding moved number-of
-kept s l r (seam.Closed h) e = let never : ⊥ = omega arith in absurd never
-kept s l r (seam.Open o) e = let never : ⊥ = omega arith in absurd never
-kept s l r (seam.Refused n) e = refl
+-- 31 is a refusal
+is-31 : (a : Seam) → number-of a ≡ 31 → is-refused a ≡ true
+unfolding is-refused number-of
+is-31 (seam.Closed h) e = let never : ⊥ = omega arith in absurd never
+is-31 (seam.Open o) e = let never : ⊥ = omega arith in absurd never
+is-31 (seam.Refused n) e = refl
 
 pub refused-kept : Refused-kept
-unfolding Refused-kept handed
-refused-kept s w e = kept s (w .left) (w .right) (answer w) e
+unfolding Refused-kept handed refused
+refused-kept s w e = rw (is-31 (answer w) e)
 
-stays : (s : Waves) (x : ℕ) → fits s ≡ false → put s x ≡ s
+unmoved : (b : Bool) (s : Waves) (x : ℕ) → fits s ≡ false → cond b s (put s x) ≡ s
 unfolding put
-stays s x e = rw e
-
-unmoved : (s : Waves) (l r : ℕ) (a : Seam) → fits s ≡ false → moved s a l r ≡ s
-unfolding moved
-unmoved s l r (seam.Closed h) e = stays s _ e
-unmoved s l r (seam.Open o) e = stays s _ e
-unmoved s l r (seam.Refused n) e = refl
+unmoved true s x e = refl
+unmoved false s x e = rw e
 
 pub unfit-kept : Unfit-kept
 unfolding Unfit-kept handed asked places gaps-at extremes
-unfit-kept s e = (λ w. (unmoved s (w .left) (w .right) (answer w) e, refl), rw e)
+unfit-kept s e = (λ w. (unmoved (refused w) s (word w) e, refl), rw e)
 
 pub extremes-right : Extremes-right
 unfolding Extremes-right
@@ -111,7 +107,7 @@ half-value (negsuc n) i = half-exact true (suc n) (omega arith)
 -- the half gap of a word is exact
 exact-at : (x : ℕ) → no-gap x ≡ false → Exact (half-gap-at x)
 unfolding half-gap-at half-gap
-exact-at x n = record { at-least = level-least x n; at-most = level-most x n; value = half-value (level x) (level-small x n) }
+exact-at x n = record { at-least = signed-least x n; at-most = signed-most x n; value = half-value (signed x) (signed-small x n) }
 
 exact-told : (e : Ends) (a b : HalfGap) → Told-words e → told e ≡ Of a b → Exact a × Exact b
 unfolding told Told-words

@@ -1,24 +1,21 @@
 -- The state as words, and what each operation makes of any. Assumes nothing.
-use mathlib.Core.Bool.{Bool, false, cond, _&&_}
+use mathlib.Core.Bool.{Bool, cond, _&&_}
 use mathlib.Core.List.{List, [], _∷_, _++_}
 use mathlib.Core.Option.{Option, none, some}
-use mathlib.Core.Path.{_≡_}
-use Prim.Native.Nat.{ℕ, zero, suc, _+_, _-_, min, max}
+use Prim.Native.Nat.{ℕ, zero, suc, _+_, _-_}
 use lib.Dec.{eqb, leb, ltb}
 use lib.IntN.{ℤ, pos, _-ℤ_}
 use lib.ListN.{getD, set, replicate}
 use Rattle.settings.specs.Refusal.{outside}
 use Rattle.seam.specs.declared.Seam.{Seam}
 use Rattle.seam.specs.declared.Seam.the-variants as seam
-use Rattle.waves.specs.Wave.{Wave, answer}
-use Rattle.waves.specs.Reading.{with-some, half-gap, extremes}
+use Rattle.waves.specs.Wave.{Wave, answer, refused}
+use Rattle.waves.specs.Reading.{with-some, extremes}
 use Rattle.waves.specs.declared.Waves.{Waves}
 use Rattle.waves.specs.declared.Started.{Started}
 use Rattle.waves.specs.declared.HandedIn.{HandedIn}
-use Rattle.waves.specs.declared.«half_gap».HalfGap.{HalfGap}
 use Rattle.waves.specs.declared.Extremes.{Extremes}
-use Rattle.waves.specs.declared.Extremes.the-variants.{Of, Refused}
-use Rattle.waves.specs.declared.ends.Ends.{Ends}
+use Rattle.waves.specs.declared.Extremes.the-variants.{Refused}
 
 -- §E1.6 n, in word 64
 unfoldable pub size : Waves → ℕ
@@ -40,15 +37,27 @@ blank n = record { words = set (replicate 66 0) 64 n }
 unfoldable pub started : (n : ℕ) → Started
 started n = cond (outside 1 64 n) (record { number = 51; waves = blank 0 }) (record { number = 0; waves = blank n })
 
+-- §E1.6 the word of a gap of 0
+abbrev pub level : ℕ
+level = 2199023255552
+
+-- §E1.6 the largest word of a gap, 2^42 - 1
+abbrev pub most : ℕ
+most = 4398046511103
+
 -- §E1.6 the word of a gap: right less left, and 2^41
 unfoldable pub word-of : (left right : ℕ) → ℕ
-word-of l r = 2199023255552 + r - l
+word-of l r = level + r - l
 
--- §E1.6 the word of a wave: 0 for an open one
+-- §E1.6 the word of a seam: that of its gap where it is closed, otherwise 0
 unfoldable pub seam-word : Seam → (left right : ℕ) → ℕ
 seam-word (seam.Closed h) l r = word-of l r
 seam-word (seam.Open s) l r = 0
 seam-word (seam.Refused n) l r = 0
+
+-- §E1.6 the word of a wave
+unfoldable pub word : Wave → ℕ
+word w = seam-word (answer w) (w .left) (w .right)
 
 -- §E1.6 the place after a place, the first after the last
 unfoldable pub following : (place n : ℕ) → ℕ
@@ -58,27 +67,21 @@ following i n = cond (eqb (suc i) n) 0 (suc i)
 unfoldable pub put : Waves → (word : ℕ) → Waves
 put s x = cond (fits s) (record { words = set (set (s .words) (next s) x) 65 (following (next s) (size s)) }) s
 
--- §E1.2 the state after a wave that the seam operation answers so
-unfoldable pub moved : Waves → Seam → (left right : ℕ) → Waves
-moved s (seam.Closed h) l r = put s (word-of l r)
-moved s (seam.Open o) l r = put s 0
-moved s (seam.Refused n) l r = s
-
--- §E1.2 one wave more: the state after it, and the seam
+-- §E1.2 one wave more: the state after it, which a wave that is turned away leaves, and the seam
 unfoldable pub handed : Waves → Wave → HandedIn
-handed s w = record { waves = moved s (answer w) (w .left) (w .right); seam = answer w }
+handed s w = record { waves = cond (refused w) s (put s (word w)); seam = answer w }
 
--- §E1.6 a word is that of no gap: the words of gaps are 1 to 2^42 - 1
+-- §E1.6 a word is that of no gap: the words of gaps begin at 1
 unfoldable pub no-gap : (word : ℕ) → Bool
-no-gap x = outside 1 4398046511103 x
+no-gap x = outside 1 most x
 
 -- §E1.6 the gap of a word
-unfoldable pub level : (word : ℕ) → ℤ
-level x = pos x -ℤ pos 2199023255552
+unfoldable pub signed : (word : ℕ) → ℤ
+signed x = pos x -ℤ pos level
 
 -- §E1.6 the gap of a word that is a gap's; every other gives no number
 unfoldable pub gap-at : (word : ℕ) → Option ℤ
-gap-at x = cond (no-gap x) none (some (level x))
+gap-at x = cond (no-gap x) none (some (signed x))
 
 -- §E1.6 the gaps of words
 unfoldable pub gaps-at : List ℕ → List ℤ
@@ -97,24 +100,3 @@ places s = cond (fits s) (front (size s) (s .words)) []
 -- §E1.3 the answer to the question, of any state
 unfoldable pub asked : Waves → Extremes
 asked s = extremes (gaps-at (places s))
-
--- §E1.6 the half gap of a word
-unfoldable pub half-gap-at : (word : ℕ) → HalfGap
-half-gap-at x = half-gap (level x)
-
--- §E1.6 the ends with one word more, where it is a gap's
-unfoldable pub with-word : (word : ℕ) → Ends → Ends
-with-word x e = cond (no-gap x) e (record { largest = max x (e .largest); smallest = min x (e .smallest) })
-
--- §E1.6 the largest and the smallest word of gaps; of none, 0 and 2^42
-unfoldable pub ends-of : List ℕ → Ends
-ends-of [] = record { largest = 0; smallest = 4398046511104 }
-ends-of (x ∷ xs) = with-word x (ends-of xs)
-
--- §E1.6 both are the words of gaps, or there is none
-unfoldable pub Told-words : Ends → Type 0
-Told-words e = (e .largest ≡ 0 → ⊥) → (no-gap (e .largest) ≡ false) × (no-gap (e .smallest) ≡ false)
-
--- §E1.6 the answer that they make
-unfoldable pub told : Ends → Extremes
-told e = cond (eqb (e .largest) 0) (Refused 52) (Of (half-gap-at (e .largest)) (half-gap-at (e .smallest)))

@@ -6,7 +6,7 @@ use crate::half_gap::OVER;
 use settings::rounding::larger;
 use settings::rounding::smaller;
 ghost use mathlib.Core.Path.{_≡_};
-ghost use Rattle.waves.specs.State.{with-word, told, Told-words};
+ghost use Rattle.waves.specs.Ends.{with-word, told, Told-words};
 
 pub struct Ends {
     // `OPEN` where there is no gap.

@@ -4,7 +4,8 @@ ghost use mathlib.Core.Path.{_≡_};
 ghost use mathlib.Core.Bool.{false};
 ghost use Prim.Native.Nat.{_≤_};
 ghost use Rattle.seam.specs.Seam.{latest};
-ghost use Rattle.waves.specs.State.{word-of, no-gap, half-gap-at};
+ghost use Rattle.waves.specs.State.{word-of, no-gap};
+ghost use Rattle.waves.specs.Ends.{half-gap-at};
 
 pub struct HalfGap {
     // Right less left, in half ticks.

@@ -10,7 +10,8 @@ use seam::Seam;
 ghost use mathlib.Core.Path.{_≡_};
 ghost use Prim.Native.Nat.{_≤_, _<_};
 ghost use Rattle.waves.specs.Wave.{wave};
-ghost use Rattle.waves.specs.State.{size, fits, put, following, started, handed, front, ends-of, asked};
+ghost use Rattle.waves.specs.State.{size, fits, put, following, started, handed, front, asked};
+ghost use Rattle.waves.specs.Ends.{ends-of};
 
 // Words 0 to 63 are places: 0 for an open wave or none, otherwise the gap in ticks and 2^41. The first n of them are in
 // use. Word 64 is n, word 65 the place of the next wave, which is that of the oldest once n are held.

@@ -5,33 +5,34 @@ use mathlib.Core.Bool.{Bool, true, false}
 use mathlib.Core.List.{List, [], _∷_, _++_, append-nil}
 use Prim.Native.Nat.{ℕ, suc, _+_, _^_, _≤_, _<_, min, max}
 use native.Mathlib.Omega.{arith}
-use lib.IntN.{ℤ, pos, negℤ, subℕ}
+use lib.IntN.{ℤ, pos, negℤ}
 use lib.Signed.{mag, _≤ℤ_}
 use Rattle.settings.proofs.Laws.Refusal.{inside, within, below, above}
 use Rattle.settings.proofs.Laws.Cases.{by-order}
 use Rattle.rule.specs.Signed.{larger, smaller}
 use Rattle.rule.proofs.Laws.Signed.{minus, sub-same, sub-pos, sub-neg, sub-≤, sub-larger, sub-smaller}
 use Rattle.seam.specs.Seam.{latest}
-use Rattle.waves.specs.Reading.{with-some, largest, smallest, half-gap, extremes}
-use Rattle.waves.specs.State.{no-gap, level, gap-at, gaps-at, half-gap-at, with-word, ends-of, Told-words, told}
+use Rattle.waves.specs.Reading.{with-some, largest, smallest, extremes}
+use Rattle.waves.specs.State.{no-gap, signed, gap-at, gaps-at, level, most}
+use Rattle.waves.specs.Ends.{half-gap-at, with-word, ends-of, Told-words, told}
 use Rattle.waves.specs.declared.ends.Ends.{Ends}
 use borrow.Author.Tests.{ne-eqb}
 
-pub gap-word : (x : ℕ) → no-gap x ≡ false → (1 ≤ x) × (x ≤ 4398046511103)
+pub gap-word : (x : ℕ) → no-gap x ≡ false → (1 ≤ x) × (x ≤ most)
 unfolding no-gap
-gap-word x e = inside 1 4398046511103 x e
+gap-word x e = inside 1 most x e
 
-pub is-gap : (x : ℕ) → 1 ≤ x → x ≤ 4398046511103 → no-gap x ≡ false
+pub is-gap : (x : ℕ) → 1 ≤ x → x ≤ most → no-gap x ≡ false
 unfolding no-gap
-is-gap x i k = within 1 4398046511103 x i k
+is-gap x i k = within 1 most x i k
 
 pub open-word : no-gap 0 ≡ true
 unfolding no-gap
-open-word = below 1 4398046511103 0 (omega arith)
+open-word = below 1 most 0 (omega arith)
 
-pub over-word : (x : ℕ) → 4398046511104 ≤ x → no-gap x ≡ true
+pub over-word : (x : ℕ) → suc most ≤ x → no-gap x ≡ true
 unfolding no-gap
-over-word x i = above 1 4398046511103 x (omega arith) (omega arith)
+over-word x i = above 1 most x (omega arith) (omega arith)
 
 abbrev ends : (largest smallest : ℕ) → Ends
 ends l s = record { largest = l; smallest = s }
@@ -74,40 +75,40 @@ ends-more x xs = ends-insert x xs [] ∙ rw (append-nil xs)
 
 -- Either there is no gap, or the ends are those of the first and the rest.
 data Ended (zs : List ℤ) (e : Ends) : Type 0 where
-  no-gaps : zs ≡ [] → e ≡ ends 0 4398046511104 → Ended zs e
+  no-gaps : zs ≡ [] → e ≡ ends 0 (suc most) → Ended zs e
   some-gaps : (z : ℤ) (ys : List ℤ) → zs ≡ z ∷ ys → no-gap (e .largest) ≡ false → no-gap (e .smallest) ≡ false →
-      largest z ys ≡ level (e .largest) → smallest z ys ≡ level (e .smallest) → Ended zs e
+      largest z ys ≡ signed (e .largest) → smallest z ys ≡ signed (e .smallest) → Ended zs e
 
 module _ (x y : ℕ) where
-  higher : larger (level x) (level y) ≡ level (max x y)
-  unfolding level
+  higher : larger (signed x) (signed y) ≡ signed (max x y)
+  unfolding signed
   higher =
-      rw (minus x 2199023255552, minus y 2199023255552, minus (max x y) 2199023255552)
-      (sub-larger x 2199023255552 y 2199023255552 ∙ sub-same (max (x + 2199023255552) (y + 2199023255552)) (2199023255552 + 2199023255552) (max x y) 2199023255552 (omega arith))
+      rw (minus x level, minus y level, minus (max x y) level)
+      (sub-larger x level y level ∙ sub-same (max (x + level) (y + level)) (level + level) (max x y) level (omega arith))
 
-  lower : smaller (level x) (level y) ≡ level (min x y)
-  unfolding level
+  lower : smaller (signed x) (signed y) ≡ signed (min x y)
+  unfolding signed
   lower =
-      rw (minus x 2199023255552, minus y 2199023255552, minus (min x y) 2199023255552)
-      (sub-smaller x 2199023255552 y 2199023255552 ∙ sub-same (min (x + 2199023255552) (y + 2199023255552)) (2199023255552 + 2199023255552) (min x y) 2199023255552 (omega arith))
+      rw (minus x level, minus y level, minus (min x y) level)
+      (sub-smaller x level y level ∙ sub-same (min (x + level) (y + level)) (level + level) (min x y) level (omega arith))
 
 module _ (x : ℕ) (zs : List ℤ) (e : Ends) (n : no-gap x ≡ false) where
-  first-gap : zs ≡ [] → e .largest ≡ 0 → e .smallest ≡ 4398046511104 → Ended (level x ∷ zs) (ends (max x (e .largest)) (min x (e .smallest)))
+  first-gap : zs ≡ [] → e .largest ≡ 0 → e .smallest ≡ suc most → Ended (signed x ∷ zs) (ends (max x (e .largest)) (min x (e .smallest)))
   unfolding largest smallest
   first-gap p l s =
       let i = gap-word x n in
       let most : max x (e .largest) ≡ x = omega arith in
       let least : min x (e .smallest) ≡ x = omega arith in
-      rw (p, most, least) (some-gaps (level x) [] refl n n refl refl)
+      rw (p, most, least) (some-gaps (signed x) [] refl n n refl refl)
 
-  one-gap : Ended zs e → Ended (level x ∷ zs) (ends (max x (e .largest)) (min x (e .smallest)))
+  one-gap : Ended zs e → Ended (signed x ∷ zs) (ends (max x (e .largest)) (min x (e .smallest)))
   unfolding largest smallest
   one-gap (no-gaps p q) = first-gap p (rw q) (rw q)
   one-gap (some-gaps z ys p a b l s) =
       let i = gap-word x n in
       let j = gap-word (e .largest) a in
       let k = gap-word (e .smallest) b in
-      some-gaps (level x) zs refl
+      some-gaps (signed x) zs refl
       (is-gap (max x (e .largest)) (omega arith) (omega arith))
       (is-gap (min x (e .smallest)) (omega arith) (omega arith))
       (rw (p, l) (higher x (e .largest)))
@@ -142,19 +143,19 @@ told-words xs = go (ended xs)
     go (some-gaps z ys p a b l s) k = (a, b)
 
 -- a gap is small
-pub level-small : (x : ℕ) → no-gap x ≡ false → mag (level x) < 2 ^ 52
-unfolding level
-level-small x n =
+pub signed-small : (x : ℕ) → no-gap x ≡ false → mag (signed x) < 2 ^ 52
+unfolding signed
+signed-small x n =
     let i = gap-word x n in
-    rw (minus x 2199023255552)
-    (by-order 2199023255552 x (λ p. rw (sub-pos x 2199023255552 p) (omega arith)) (λ p. rw (sub-neg x 2199023255552 p) (omega arith)))
+    rw (minus x level)
+    (by-order level x (λ p. rw (sub-pos x level p) (omega arith)) (λ p. rw (sub-neg x level p) (omega arith)))
 
 -- .. and from -(2^41 - 1) to 2^41 - 1
 module _ (x : ℕ) (n : no-gap x ≡ false) where
-  pub level-least : negℤ (pos latest) ≤ℤ level x
-  unfolding level
-  level-least = let i = gap-word x n in rw (minus x 2199023255552) (sub-≤ 0 latest x 2199023255552 (omega arith))
+  pub signed-least : negℤ (pos latest) ≤ℤ signed x
+  unfolding signed
+  signed-least = let i = gap-word x n in rw (minus x level) (sub-≤ 0 latest x level (omega arith))
 
-  pub level-most : level x ≤ℤ pos latest
-  unfolding level
-  level-most = let i = gap-word x n in rw (minus x 2199023255552) (sub-≤ x 2199023255552 latest 0 (omega arith))
+  pub signed-most : signed x ≤ℤ pos latest
+  unfolding signed
+  signed-most = let i = gap-word x n in rw (minus x level) (sub-≤ x level latest 0 (omega arith))

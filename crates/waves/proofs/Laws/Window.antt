@@ -1,142 +1,23 @@
--- What the places hold: the words of the last n waves that were not turned away, 0 for those that there are not yet. So the question
--- is answered by the full reading. Assumes nothing.
+-- The state after waves: its places hold the words of the last n that were not turned away, so the question is answered by the
+-- full reading. Assumes nothing.
 use mathlib.Core.Path.{_≡_, refl, sym, _∙_, ap, subst}
-use mathlib.Core.Bool.{Bool, true, false, cond, true≢false}
-use mathlib.Core.List.{List, [], _∷_, _++_, map, append-assoc, append-nil}
-use mathlib.Core.Option.{Option, none, some}
+use mathlib.Core.Bool.{Bool, true, false, cond}
+use mathlib.Core.List.{List, [], _∷_, _++_, append-nil}
 use Prim.Native.Nat.{ℕ, zero, suc, _+_, _-_, _≤_, _<_}
 use native.Mathlib.Omega.{arith}
-use lib.IntN.{ℤ, pos, _-ℤ_}
-use lib.ListN.{length, getD, set, take, drop, replicate, length-append, length-map, length-replicate, length-set, length-take, take-append-drop}
-use lib.Seq.{take-suc, take-set-le, take-set-lt, getD-set-same, getD-set-other, drop-append-le, drop-append-add, length-take-le}
-use Rattle.settings.proofs.Laws.Cases.{by-order, by-equal}
-use Rattle.rule.proofs.Laws.Signed.{minus, sub-same}
-use Rattle.seam.specs.Seam.{latest, seam-of}
-use Rattle.seam.specs.declared.Seam.{Seam}
+use lib.ListN.{length, set, take, drop, replicate, length-replicate, length-set, take-append-drop}
+use lib.Seq.{take-suc, take-set-le, take-set-lt, getD-set-same, getD-set-other, length-take-le}
+use Rattle.settings.proofs.Laws.Cases.{by-equal}
 use Rattle.seam.specs.declared.Seam.the-variants as seam
-use Rattle.waves.specs.Wave.{Wave, answer, is-refused, refused, where-closed, gap-of}
-use Rattle.waves.specs.Reading.{taken, last, with-some, gaps, extremes, reading}
-use Rattle.waves.specs.State.{size, next, fits, blank, word-of, seam-word, following, put, moved, handed, level, gap-at, gaps-at, no-gap, front, places, asked, ends-of, told}
+use Rattle.waves.specs.Wave.{Wave, refused}
+use Rattle.waves.specs.Reading.{taken, last, reading}
+use Rattle.waves.specs.State.{size, next, fits, blank, word, following, put, handed, front, places, asked}
+use Rattle.waves.specs.Ends.{ends-of}
 use Rattle.waves.specs.declared.Waves.{Waves}
 use Rattle.waves.proofs.Laws.State.{fit, after-last, after-inner}
-use Rattle.waves.proofs.Laws.Ends.{is-gap, open-word, ends-turn, ends-told}
-use Rattle.waves.proofs.Laws.Wave.{closed-times}
+use Rattle.waves.proofs.Laws.Ends.{ends-turn, ends-told}
 use Rattle.waves.proofs.Laws.Ring.{turned, turn-set, last-more}
-
--- the word that a wave leaves
-unfoldable pub word : Wave → ℕ
-word w = seam-word (answer w) (w .left) (w .right)
-
--- its gap is the wave's
-closed-gap : (l r : ℕ) → l ≤ latest → r ≤ latest → gap-at (word-of l r) ≡ some (pos r -ℤ pos l)
-unfolding gap-at word-of level
-closed-gap l r i k =
-    rw (is-gap (2199023255552 + r - l) (omega arith) (omega arith), minus (2199023255552 + r - l) 2199023255552, minus r l)
-    (ap some (sub-same (2199023255552 + r - l) 2199023255552 r l (omega arith)))
-
-seam-gap : (l r : ℕ) (s : Seam) → ((h : _) → s ≡ seam.Closed h → (l ≤ latest) × (r ≤ latest)) →
-    gap-at (seam-word s l r) ≡ where-closed s (pos r -ℤ pos l)
-unfolding seam-word where-closed
-seam-gap l r (seam.Closed h) i = let k = i h refl in closed-gap l r (k .0) (k .1)
-seam-gap l r (seam.Open o) i = unfold gap-at in rw open-word
-seam-gap l r (seam.Refused n) i = unfold gap-at in rw open-word
-
-word-gap : (w : Wave) → gap-at (word w) ≡ gap-of w
-unfolding word gap-of answer
-word-gap w =
-    seam-gap (w .left) (w .right) (seam-of (w .left) (w .left-faulty) (w .right) (w .right-faulty))
-    (λ h e. closed-times (w .left) (w .left-faulty) (w .right) (w .right-faulty) h e)
-
-words-gaps : (ws : List Wave) → gaps-at (map word ws) ≡ gaps ws
-unfolding gaps-at gaps
-words-gaps [] = refl
-words-gaps (w ∷ ws) = rw (word-gap w, words-gaps ws)
-
--- what stands for waves that there are not yet gives no number
-no-waves : (k n : ℕ) (xs : List ℕ) → gaps-at (drop k (replicate n 0) ++ xs) ≡ gaps-at xs
-unfolding gaps-at gap-at with-some
-no-waves zero zero xs = refl
-no-waves zero (suc n) xs = rw open-word (no-waves zero n xs)
-no-waves (suc k) zero xs = refl
-no-waves (suc k) (suc n) xs = no-waves k n xs
-
-drop-map : (k : ℕ) (ws : List Wave) → drop k (map word ws) ≡ map word (drop k ws)
-drop-map zero ws = refl
-drop-map (suc k) [] = refl
-drop-map (suc k) (w ∷ ws) = drop-map k ws
-
--- n places without a wave, and the words of waves
-abbrev line : (n : ℕ) → List Wave → List ℕ
-line n vs = replicate n 0 ++ map word vs
-
-line-length : (n : ℕ) (vs : List Wave) → length (line n vs) ≡ n + length vs
-line-length n vs = simp (length-append, length-replicate, length-map)
-
-module _ (n : ℕ) (vs : List Wave) where
-  blank-length : length (replicate {A = ℕ} n 0) ≡ n
-  blank-length = length-replicate {A = ℕ} n 0
-
-  few : length vs ≤ n → drop (length vs) (line n vs) ≡ drop (length vs) (replicate n 0) ++ map word vs
-  few i = drop-append-le (length vs) (replicate n 0) (map word vs) (rw blank-length i)
-
-  many : n ≤ length vs → drop (length vs) (line n vs) ≡ map word (drop (length vs - n) vs)
-  many i =
-      let split : length vs ≡ length (replicate {A = ℕ} n 0) + (length vs - n) = rw blank-length (omega arith) in
-      ap (λ (k : ℕ). drop k (line n vs)) split ∙ drop-append-add (replicate n 0) (map word vs) (length vs - n) ∙ drop-map (length vs - n) vs
-
-  -- the last n of these have the gaps of the last n waves
-  last-gaps : gaps-at (last n (line n vs)) ≡ gaps (last n vs)
-  unfolding last
-  last-gaps =
-      let past : length (line n vs) - n ≡ length vs = rw (line-length n vs) (omega arith) in
-      rw past
-      (by-order n (length vs)
-      (λ i. rw (many i) (words-gaps (drop (length vs - n) vs)))
-      (λ i. let all : length vs - n ≡ 0 = omega arith in rw (few (omega arith), all) (no-waves (length vs) n (map word vs) ∙ words-gaps vs)))
-
--- one wave more
-kept : (b : Bool) (v w : Wave) (xs ys : List Wave) → xs ≡ ys ++ (w ∷ []) → cond b xs (v ∷ xs) ≡ cond b ys (v ∷ ys) ++ (w ∷ [])
-kept true v w xs ys e = e
-kept false v w xs ys e = ap (_∷_ v) e
-
-taken-more : (ws : List Wave) (w : Wave) → refused w ≡ false → taken (ws ++ w ∷ []) ≡ taken ws ++ (w ∷ [])
-unfolding taken
-taken-more [] w e = rw e
-taken-more (v ∷ ws) w e = kept (refused v) v w (taken (ws ++ w ∷ [])) (taken ws) (taken-more ws w e)
-
-taken-same : (ws : List Wave) (w : Wave) → refused w ≡ true → taken (ws ++ w ∷ []) ≡ taken ws
-unfolding taken
-taken-same [] w e = rw e
-taken-same (v ∷ ws) w e = rw (taken-same ws w e)
-
-map-more : (vs : List Wave) (w : Wave) → map word (vs ++ w ∷ []) ≡ map word vs ++ (word w ∷ [])
-map-more [] w = refl
-map-more (v ∷ vs) w = ap (_∷_ (word v)) (map-more vs w)
-
-line-more : (n : ℕ) (vs : List Wave) (w : Wave) → line n (vs ++ w ∷ []) ≡ line n vs ++ (word w ∷ [])
-line-more n vs w = rw (map-more vs w) (sym (append-assoc (replicate n 0) (map word vs) (word w ∷ [])))
-
-module _ (s : Waves) (l r : ℕ) where
-  move-taken : (a : Seam) → is-refused a ≡ false → moved s a l r ≡ put s (seam-word a l r)
-  unfolding moved seam-word is-refused
-  move-taken (seam.Closed h) e = refl
-  move-taken (seam.Open o) e = refl
-  move-taken (seam.Refused n) e = absurd (true≢false e)
-
-  move-refused : (a : Seam) → is-refused a ≡ true → moved s a l r ≡ s
-  unfolding moved is-refused
-  move-refused (seam.Closed h) e = absurd (true≢false (sym e))
-  move-refused (seam.Open o) e = absurd (true≢false (sym e))
-  move-refused (seam.Refused n) e = refl
-
-module _ (s : Waves) (w : Wave) where
-  taken-moves : refused w ≡ false → moved s (answer w) (w .left) (w .right) ≡ put s (word w)
-  unfolding refused word
-  taken-moves e = move-taken s (w .left) (w .right) (answer w) e
-
-  refused-stays : refused w ≡ true → moved s (answer w) (w .left) (w .right) ≡ s
-  unfolding refused
-  refused-stays e = move-refused s (w .left) (w .right) (answer w) e
+use Rattle.waves.proofs.Laws.Words.{line, line-length, last-gaps, taken-more, taken-same, line-more}
 
 -- the state after waves, n at most: n and the place of the next, and from that place on the words of the last n
 pub record Holds (n : ℕ) (ws : List Wave) (s : Waves) : Type 0 where
@@ -226,9 +107,9 @@ module _ (n : ℕ) (ws : List Wave) (s : Waves) (w : Wave) (h : Holds n ws s) wh
   unfolding handed
   holds-more = go (refused w) refl
     where
-      go : (b : Bool) → refused w ≡ b → Holds n (ws ++ w ∷ []) (moved s (answer w) (w .left) (w .right))
-      go false e = rw (taken-moves s w e) (holds-put e)
-      go true e = rw (refused-stays s w e) (holds-same e)
+      go : (b : Bool) → refused w ≡ b → Holds n (ws ++ w ∷ []) (cond (refused w) s (put s (word w)))
+      go false e = rw e (holds-put e)
+      go true e = rw e (holds-same e)
 
 front-take : (n : ℕ) (xs : List ℕ) → n ≤ length xs → front n xs ≡ take n xs
 unfolding front

@@ -1,5 +1,5 @@
 -- `ask` meets its contract. Assumes nothing.
-use mathlib.Core.Path.{_≡_, sym, _∙_}
+use mathlib.Core.Path.{sym, _∙_}
 use borrow.Author.Needs.{needs}
 use Rattle.waves.specs.Reading.{extremes}
 use Rattle.waves.specs.State.{gaps-at, places, asked}

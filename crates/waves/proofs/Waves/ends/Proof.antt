@@ -5,7 +5,8 @@ use native.Mathlib.Numerals.{add-one}
 use native.Mathlib.Omega.{arith}
 use lib.ListN.{getD}
 use borrow.Author.Needs.{needs}
-use Rattle.waves.specs.State.{size, front, ends-of}
+use Rattle.waves.specs.State.{size, front}
+use Rattle.waves.specs.Ends.{ends-of}
 use Rattle.waves.proofs.Laws.Ends.{ends-more}
 use Rattle.waves.proofs.Waves.ends.Statement.{statement}
 use Rattle.waves.proofs.Waves.ends.Tie as tie

@@ -1,7 +1,7 @@
 -- `fits` meets its contract. Assumes nothing.
 use mathlib.Core.Path.{sym}
 use borrow.Author.Needs.{needs}
-use Rattle.waves.specs.State.{size, next, fits}
+use Rattle.waves.specs.State.{size, next}
 use Rattle.waves.proofs.Laws.State.{too-many, fit-by-next}
 use Rattle.waves.proofs.Waves.fits.Statement.{statement}
 use Rattle.waves.proofs.Waves.fits.Tie as tie

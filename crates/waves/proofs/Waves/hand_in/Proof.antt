@@ -1,8 +1,8 @@
 -- `hand_in` meets its contract. Assumes nothing.
-use mathlib.Core.Path.{_≡_, sym, _∙_}
+use mathlib.Core.Path.{sym, _∙_}
 use borrow.Author.Needs.{needs}
-use Rattle.waves.specs.Wave.{wave, answer}
-use Rattle.waves.specs.State.{moved, handed}
+use Rattle.waves.specs.Wave.{wave, answer, is-refused, refused}
+use Rattle.waves.specs.State.{seam-word, word, handed}
 use Rattle.waves.proofs.Laws.Wave.{closed-times}
 use Rattle.waves.proofs.Waves.hand_in.Statement.{statement}
 use Rattle.waves.proofs.Waves.hand_in.Tie as tie
@@ -32,19 +32,19 @@ enum-told-3 : tie.Need-enum-told-3
 enum-told-3 c = search needs
 
 returns : tie.Need-returns
-unfolding handed moved answer wave
+unfolding handed refused is-refused word seam-word answer wave
 returns c =
     let e = c .before .before in
     rw (← e .before .before .join .ensures, e .enum-told .given .1, c .put .ensures, c .before .word .ensures)
 
 returns-2 : tie.Need-returns-2
-unfolding handed moved answer wave
+unfolding handed refused is-refused word seam-word answer wave
 returns-2 c =
     let e = c .before in
     rw (← e .before .before .join .ensures, e .enum-told2 .given .1, c .put2 .ensures)
 
 returns-3 : tie.Need-returns-3
-unfolding handed moved answer wave
+unfolding handed refused is-refused word seam-word answer wave
 returns-3 c = rw (← c .before .before .join .ensures, c .enum-told3 .given .1)
 
 pub hand-in-spec : {M : Type 1} → statement M

@@ -1,8 +1,5 @@
 -- `start` meets its contract. Assumes nothing.
-use mathlib.Core.Path.{sym}
-use native.Mathlib.Omega.{arith}
 use borrow.Author.Needs.{needs}
-use Rattle.settings.specs.Refusal.{outside}
 use Rattle.settings.proofs.Laws.Refusal.{below, above, within}
 use Rattle.waves.specs.State.{started, blank}
 use Rattle.waves.proofs.Waves.start.Statement.{statement}

@@ -1,5 +1,4 @@
 -- `word` meets its contract. Assumes nothing.
-use mathlib.Core.Path.{refl}
 use borrow.Author.Needs.{needs}
 use Rattle.waves.specs.State.{word-of}
 use Rattle.waves.proofs.half_gap.word.Statement.{statement}

@@ -1,7 +1,6 @@
 -- `told` meets its contract. Assumes nothing.
-use mathlib.Core.Path.{sym}
 use borrow.Author.Tests.{eq-eqb, ne-eqb}
-use Rattle.waves.specs.State.{told, Told-words}
+use Rattle.waves.specs.Ends.{told, Told-words}
 use Rattle.waves.proofs.ends.Ends.told.Statement.{statement}
 use Rattle.waves.proofs.ends.Ends.told.Tie as tie
 

@@ -2,7 +2,6 @@
 use mathlib.Core.Path.{sym}
 use borrow.Author.Needs.{needs}
 use native.Mathlib.Omega.{arith}
-use Rattle.waves.specs.State.{no-gap}
 use Rattle.waves.proofs.Laws.Ends.{is-gap, open-word, over-word, no-word, one-word}
 use Rattle.waves.proofs.ends.Ends.with.Statement.{statement}
 use Rattle.waves.proofs.ends.Ends.with.Tie as tie
