@@ -1,4 +1,4 @@
+pub mod Cases
 pub mod Laws
 pub mod Contract
 pub mod Promises
-pub mod Cases

@@ -36,7 +36,7 @@ Window-cases =
     × Reads 64 (closed 0 100 ∷ replicate 63 (closed 7 8)) (pos 100) (pos 1)
     × Reads 64 (closed 0 100 ∷ replicate 64 (closed 7 8)) (pos 1) (pos 1)
 
--- §E1.3 open waves take a place and give no number: one beside a closed one; one in the place of the largest; all open; none at all
+-- §E1.3 an open wave has no number but a place: beside a closed one; in the place of the largest; all open; none at all
 unfoldable pub Open-cases : Type 0
 Open-cases =
     Reads 2 (closed 0 9 ∷ wave 3 true 4 false ∷ []) (pos 9) (pos 9)
