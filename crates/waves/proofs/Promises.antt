@@ -8,10 +8,15 @@ use lib.IntN.{ℤ, pos, negsuc, natAbs}
 use lib.ListN.{length, length-append}
 use lib.Seq.{drop-append-seam}
 use lib.Signed.{mag, ltZ}
+use lib.Ieee.Exact.{HasValue}
+use borrow.Author.Tests.{eq-eqb, ne-eqb, le-ltb}
 use Rattle.settings.proofs.Laws.Refusal.{within, below, above}
+use Rattle.settings.specs.Refusal.{outside}
+use Rattle.settings.proofs.Laws.Cases.{by-order, by-zero}
 use Rattle.seam.specs.Seam.{half, halves, number-of}
 use Rattle.seam.specs.declared.Seam.{Seam}
 use Rattle.seam.specs.declared.Seam.the-variants as seam
+use Rattle.seam.proofs.Laws.{half-exact}
 use Rattle.waves.specs.Wave.{Wave, answer, is-refused, refused, gap-of, where-closed}
 use Rattle.waves.specs.Reading.{last, largest, smallest, half-gap, extremes}
 use Rattle.waves.specs.State.{fits, blank, started, put, word, handed, no-gap, signed, gaps-at, places, asked}
@@ -25,11 +30,6 @@ use Rattle.waves.specs.declared.Extremes.the-variants.{Of, Refused}
 use Rattle.waves.specs.declared.ends.Ends.{Ends}
 use Rattle.waves.proofs.Laws.Ends.{signed-small, signed-least, signed-most, ends-told, told-words}
 use Rattle.waves.proofs.Laws.Wave.{closed-halves}
-use Rattle.settings.specs.Refusal.{outside}
-use Rattle.settings.proofs.Laws.Cases.{by-order, by-zero}
-use Rattle.seam.proofs.Laws.{half-exact}
-use lib.Ieee.Exact.{HasValue}
-use borrow.Author.Tests.{eq-eqb, ne-eqb, le-ltb}
 use Rattle.waves.proofs.Laws.Extremes.{largest-right, smallest-right}
 use Rattle.waves.proofs.Laws.Window.{Holds, holds-started, holds-more, asked-read}
 

@@ -39,6 +39,10 @@ pub enum Extremes {
 impl Waves {
     // The most waves that can be held.
     pub const MOST: u64 = 64;
+    // The words of n and of the next place.
+    const N: usize = 64;
+
+    const NEXT: usize = 65;
 
     // The last n waves of a seam, and none so far.
     pub fn start(n: u64) -> Started
@@ -57,7 +61,7 @@ impl Waves {
                 waves: Waves { words },
             };
         }
-        words[64] = n;
+        words[Waves::N] = n;
         Started {
             number: 0,
             waves: Waves { words },
@@ -68,11 +72,11 @@ impl Waves {
     pub fn fits(self) -> bool
         ensures { λ r. ⌜ r ≡ fits self ⌝ }
     {
-        let n = self.words[64];
+        let n = self.words[Waves::N];
         if Waves::MOST < n {
             return false;
         }
-        self.words[65] < n
+        self.words[Waves::NEXT] < n
     }
 
     // One wave more, as the seam operation takes it. One that it refuses leaves the state as it was, and so does any where the state
@@ -110,11 +114,11 @@ impl Waves {
         ensures { λ r. ⌜ r ≡ put self word ⌝ }
     {
         if self.fits() {
-            let n = self.words[64];
-            let next = self.words[65];
+            let n = self.words[Waves::N];
+            let next = self.words[Waves::NEXT];
             let mut words = self.words;
             words[next as usize] = word;
-            words[65] = following(next, n);
+            words[Waves::NEXT] = following(next, n);
             return Waves { words };
         }
         self
@@ -125,7 +129,7 @@ impl Waves {
         requires { ⌜ size self ≤ 64 ⌝ }
         ensures { λ r. ⌜ r ≡ ends-of (front (size self) (self .words)) ⌝ }
     {
-        let n = self.words[64] as usize;
+        let n = self.words[Waves::N] as usize;
         let mut ends = Ends::NONE;
         let mut place = 0;
         while place < n {
