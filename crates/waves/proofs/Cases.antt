@@ -45,12 +45,12 @@ pub word-cases : Word-cases
 unfolding Word-cases asked places fits size next state front gaps-at gap-at no-gap outside signed with-some extremes largest smallest larger smaller
 word-cases = (refl, refl, refl, refl)
 
-hand : {s : Waves} {cs : List Call} (w : Wave) → Calls (handed s w .waves) cs → Calls s (hands-in w (answer w) ∷ cs)
+hand : {s t : Waves} {cs : List Call} (w : Wave) → Calls (handed s w .waves) cs t → Calls s (hands-in w (answer w) ∷ cs) t
 unfolding handed
 hand {s} w c = hand-in w (handed s w) refl c
 
 pub calls-witness : Calls-witness
-unfolding Calls-witness some-calls closed wave answer refused is-refused seam-of late joined handed put word seam-word word-of following started blank outside asked places fits size next front gaps-at gap-at no-gap signed with-some extremes largest smallest larger smaller
+unfolding Calls-witness some-calls state closed wave answer refused is-refused seam-of late joined handed put word seam-word word-of following started blank outside asked places fits size next front gaps-at gap-at no-gap signed with-some extremes largest smallest larger smaller
 calls-witness =
     ask _ refl
     (hand (closed 0 9)

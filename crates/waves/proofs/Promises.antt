@@ -21,7 +21,7 @@ use Rattle.waves.specs.Wave.{Wave, answer, is-refused, refused, gap-of, 
 use Rattle.waves.specs.Reading.{last, largest, smallest, half-gap, extremes}
 use Rattle.waves.specs.State.{fits, blank, started, put, word, handed, no-gap, signed, gaps-at, places, asked}
 use Rattle.waves.specs.Ends.{half-gap-at, ends-of, Told-words, told}
-use Rattle.waves.specs.Program.{Call, Calls, done, hand-in, ask, Read, Calls-read}
+use Rattle.waves.specs.Program.{Call, Calls, done, hand-in, ask, Read, Calls-read, Calls-fit}
 use Rattle.waves.specs.Promises.{Start-numbers, Refused-kept, Last-exact, Extremes-right, Exact, Answers-exact, Same-half-gap, Unfit-kept}
 use Rattle.waves.specs.declared.Waves.{Waves}
 use Rattle.waves.specs.declared.Started.{Started}
@@ -31,7 +31,7 @@ use Rattle.waves.specs.declared.ends.Ends.{Ends}
 use Rattle.waves.proofs.Laws.Ends.{signed-small, signed-least, signed-most, ends-told, told-words}
 use Rattle.waves.proofs.Laws.Wave.{closed-halves}
 use Rattle.waves.proofs.Laws.Extremes.{largest-right, smallest-right}
-use Rattle.waves.proofs.Laws.Window.{Holds, holds-started, holds-more, asked-read}
+use Rattle.waves.proofs.Laws.Window.{Holds, holds-fit, holds-started, holds-more, asked-read}
 
 pub start-numbers : Start-numbers
 unfolding Start-numbers started
@@ -41,28 +41,42 @@ started-waves : (n : ℕ) → 1 ≤ n → n ≤ 64 → started n .waves ≡ blan
 unfolding started
 started-waves n i k = rw (within 1 64 n i k)
 
-read-from : {s : Waves} {cs : List Call} (n : ℕ) (ws : List Wave) → Holds n ws s → Calls s cs → Read n ws cs
+read-from : {s t : Waves} {cs : List Call} (n : ℕ) (ws : List Wave) → Holds n ws s → Calls s cs t → Read n ws cs
 unfolding Read handed
 read-from n ws h done = tt
 read-from {s} n ws h (hand-in w r e c) =
     (rw e, read-from n (ws ++ w ∷ []) (rw e (holds-more n ws s w h)) c)
 read-from {s} n ws h (ask a e c) = (e ∙ asked-read n ws s h, read-from n ws h c)
 
+fit-from : {s t : Waves} {cs : List Call} (n : ℕ) (ws : List Wave) → Holds n ws s → Calls s cs t → fits t ≡ true
+fit-from {s} n ws h done = holds-fit n ws s h
+fit-from {s} n ws h (hand-in w r e c) = fit-from n (ws ++ w ∷ []) (rw e (holds-more n ws s w h)) c
+fit-from n ws h (ask a e c) = fit-from n ws h c
+
 started-number : (n : ℕ) → outside 1 64 n ≡ true → started n .number ≡ 51
 unfolding started
 started-number n e = rw e
 
+-- what a start that is accepted leaves
+module _ (n : ℕ) (r : Started) (e : r ≡ started n) (z : r .number ≡ 0) where
+  not-outside : outside 1 64 n ≡ true → Holds n [] (r .waves)
+  not-outside o = let never : ⊥ = omega (arith, z, ap (λ (x : Started). x .number) e, started-number n o) in absurd never
+
+  accepted : Holds n [] (r .waves)
+  accepted =
+      by-order 1 n
+      (λ i. by-order n 64
+      (λ k. rw (e, started-waves n i k) (holds-started n i k))
+      (λ k. not-outside (above 1 64 n i k)))
+      (λ i. not-outside (below 1 64 n (omega arith)))
+
 pub calls-read : Calls-read
 unfolding Calls-read
-calls-read n r cs e z c =
-    by-order 1 n
-    (λ i. by-order n 64
-    (λ k. read-from n [] (rw (e, started-waves n i k) (holds-started n i k)) c)
-    (λ k. refused (above 1 64 n i k)))
-    (λ i. refused (below 1 64 n (omega arith)))
-  where
-    refused : outside 1 64 n ≡ true → Read n [] cs
-    refused o = let never : ⊥ = omega (arith, z, ap (λ (x : Started). x .number) e, started-number n o) in absurd never
+calls-read n r cs t e z c = read-from n [] (accepted n r e z) c
+
+pub calls-fit : Calls-fit
+unfolding Calls-fit
+calls-fit n r cs t e z c = fit-from n [] (accepted n r e z) c
 
 pub last-exact : Last-exact
 unfolding Last-exact last

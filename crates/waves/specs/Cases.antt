@@ -5,7 +5,7 @@ use mathlib.Core.List.{List, [], _∷_, _++_, map}
 use Prim.Native.Nat.{ℕ}
 use lib.IntN.{ℤ, pos, negsuc}
 use lib.Ieee.{binary64, toBits}
-use lib.ListN.{replicate, set}
+use lib.ListN.{replicate, set, take}
 use Rattle.waves.specs.Wave.{Wave, wave, answer}
 use Rattle.waves.specs.Reading.{half-gap, reading}
 use Rattle.waves.specs.State.{fits, started, asked}
@@ -69,7 +69,7 @@ Bits-cases =
 
 -- §E1.6 n places with the next one among them, and these words in front
 unfoldable pub state : (n next : ℕ) → (words : List ℕ) → Waves
-state n i ws = record { words = set (set (ws ++ replicate 66 0) 64 n) 65 i }
+state n i ws = record { words = set (set (take 66 (ws ++ replicate 66 0)) 64 n) 65 i }
 
 -- §E1.6 what fits: 1 to 64 places, and the next one below that
 unfoldable pub Fit-cases : Type 0
@@ -102,6 +102,6 @@ some-calls =
     ∷ asks (Of (half-gap (negsuc 1)) (half-gap (negsuc 1)))
     ∷ []
 
--- §E1.5 there are such calls
+-- §E1.5 there are such calls, and this is the state after them
 unfoldable pub Calls-witness : Type 0
-Calls-witness = Calls (started 2 .waves) some-calls
+Calls-witness = Calls (started 2 .waves) some-calls (state 2 1 (2199023255550 ∷ 0 ∷ []))

@@ -75,6 +75,9 @@ module _ (n : ℕ) (s : Waves) (x : ℕ) (r : Ready n s) where
       (subst (λ (m : ℕ). turned (following (next s) m) (set places (next s) x) ≡ drop 1 (turned (next s) places) ++ (x ∷ [])) many
       (turn-set places (next s) x (rw many (r .inside))))
 
+pub holds-fit : (n : ℕ) (ws : List Wave) (s : Waves) → Holds n ws s → fits s ≡ true
+holds-fit n ws s h = fitting n s 0 (h .ready)
+
 take-replicate : (n m : ℕ) → n ≤ m → take n (replicate {A = ℕ} m 0) ≡ replicate n 0
 take-replicate zero m i = refl
 take-replicate (suc n) zero i = let never : ⊥ = omega arith in absurd never
@@ -124,4 +127,4 @@ unfolding asked places reading
 asked-read n ws s h =
     let xs = take n (s .words) in
     let r = h .ready in
-    rw (fitting n s 0 r, r .sized, front-take n (s .words) (omega (arith, r .few, r .whole)), ← ends-told xs, ← ends-turned (next s) xs, h .words, ends-told (last n (line n (taken ws))), last-gaps n (taken ws))
+    rw (holds-fit n ws s h, r .sized, front-take n (s .words) (omega (arith, r .few, r .whole)), ← ends-told xs, ← ends-turned (next s) xs, h .words, ends-told (last n (line n (taken ws))), last-gaps n (taken ws))
