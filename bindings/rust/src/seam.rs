@@ -37,10 +37,20 @@ pub enum Side {
 /// # Ok::<(), polzaintu::Refusal>(())
 /// ```
 pub fn join(left: Option<u64>, right: Option<u64>) -> Result<Seam, Refusal> {
+    called(left, right, ffi::seam)
+}
+
+/// The seam that a call answers. It is given both tiles, each by its time and whether it is faulty,
+/// and what it writes: the side and the halves.
+pub(crate) fn called(
+    left: Option<u64>,
+    right: Option<u64>,
+    call: impl FnOnce(u64, bool, u64, bool, &mut u32, &mut ffi::Halves) -> u32,
+) -> Result<Seam, Refusal> {
     let mut side = 0;
     let mut halves = ffi::Halves::default();
     // A faulty tile's time is not read.
-    Refusal::check(ffi::seam(
+    Refusal::check(call(
         left.unwrap_or(0),
         left.is_none(),
         right.unwrap_or(0),
@@ -52,7 +62,7 @@ pub fn join(left: Option<u64>, right: Option<u64>) -> Result<Seam, Refusal> {
 }
 
 impl Seam {
-    pub(crate) fn read(side: u32, halves: ffi::Halves) -> Seam {
+    fn read(side: u32, halves: ffi::Halves) -> Seam {
         let ffi::Halves { midpoint, half_gap } = halves;
         match side {
             0 => Seam::Closed { midpoint, half_gap },

@@ -1,6 +1,6 @@
 //! The last waves of one seam, and the largest and smallest half gap among them: §E1.1 to §E1.7.
 
-use crate::seam::Seam;
+use crate::seam::{self, Seam};
 use crate::{ffi, Refusal};
 
 /// The last n waves of one seam. A copy goes on by itself.
@@ -61,19 +61,10 @@ impl Waves {
     /// number 31, and then the waves held are as they were. An open wave takes a place too; once n
     /// are held, each takes that of the oldest.
     pub fn hand_in(&mut self, left: Option<u64>, right: Option<u64>) -> Result<Seam, Refusal> {
-        let mut side = 0;
-        let mut halves = ffi::Halves::default();
-        // A start wrote the waves, so they fit; a faulty tile's time is not read.
-        Refusal::check(ffi::waves_hand_in(
-            &mut self.0,
-            left.unwrap_or(0),
-            left.is_none(),
-            right.unwrap_or(0),
-            right.is_none(),
-            &mut side,
-            &mut halves,
-        ))?;
-        Ok(Seam::read(side, halves))
+        // A start wrote the waves, so they fit.
+        seam::called(left, right, |l, l_faulty, r, r_faulty, side, halves| {
+            ffi::waves_hand_in(&mut self.0, l, l_faulty, r, r_faulty, side, halves)
+        })
     }
 
     /// The largest and smallest half gap of the closed waves held; or number 52, where none is.

@@ -1,5 +1,5 @@
--- What is promised of the last waves of a seam, beside `Calls-read`. Each statement is proved in proofs/Promises.antt, under its name in
--- small letters. Assumes nothing.
+-- What is promised of the last waves of a seam, beside what specs/Program.antt states of lists of calls. Each statement is proved in
+-- proofs/Promises.antt, under its name in small letters. Assumes nothing.
 use mathlib.Core.Path.{_≡_}
 use mathlib.Core.Bool.{false}
 use mathlib.Core.List.{List, _∷_, _++_}

@@ -7,6 +7,7 @@ use Prim.Native.Nat.{ℕ, suc, _+_, _^_, _≤_, _<_, min, max}
 use native.Mathlib.Omega.{arith}
 use lib.IntN.{ℤ, pos, negℤ}
 use lib.Signed.{mag, _≤ℤ_}
+use borrow.Author.Tests.{ne-eqb}
 use Rattle.settings.proofs.Laws.Refusal.{inside, within, below, above}
 use Rattle.settings.proofs.Laws.Cases.{by-order}
 use Rattle.rule.specs.Signed.{larger, smaller}
@@ -16,7 +17,6 @@ use Rattle.waves.specs.Reading.{with-some, largest, smallest, extremes}
 use Rattle.waves.specs.State.{no-gap, signed, gap-at, gaps-at, level, most}
 use Rattle.waves.specs.Ends.{half-gap-at, with-word, ends-of, Told-words, told}
 use Rattle.waves.specs.declared.ends.Ends.{Ends}
-use borrow.Author.Tests.{ne-eqb}
 
 pub gap-word : (x : ℕ) → no-gap x ≡ false → (1 ≤ x) × (x ≤ most)
 unfolding no-gap

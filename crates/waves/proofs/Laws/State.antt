@@ -1,21 +1,14 @@
 -- What a state that fits has, and the place after a place. Assumes nothing.
-use mathlib.Core.Path.{_≡_, refl, sym}
-use mathlib.Core.Bool.{Bool, true, false, _&&_, true≢false}
+use mathlib.Core.Path.{_≡_, sym, _∙_}
+use mathlib.Core.Bool.{true, false, true≢false}
 use Prim.Native.Nat.{ℕ, suc, _≤_, _<_}
-use lib.Dec.{leb, ltb}
-use borrow.Author.Tests.{leb-true, ltb-true, le-leb, lt-leb, lt-ltb, eq-eqb, ne-eqb}
+use lib.Dec.{ltb}
+use borrow.Author.Tests.{ltb-true, le-leb, lt-leb, lt-ltb, eq-eqb, ne-eqb}
+use Rattle.settings.proofs.Laws.Cases.{by-order}
 use Rattle.waves.specs.State.{size, next, fits, following}
 use Rattle.waves.specs.declared.Waves.{Waves}
 
-both : (a b : Bool) → (a && b) ≡ true → (a ≡ true) × (b ≡ true)
-both true b e = (refl, e)
-both false b e = absurd (true≢false (sym e))
-
 module _ (s : Waves) where
-  pub fit : size s ≤ 64 → next s < size s → fits s ≡ true
-  unfolding fits
-  fit i k = rw (le-leb (size s) 64 i, lt-ltb (next s) (size s) k)
-
   pub too-many : 64 < size s → fits s ≡ false
   unfolding fits
   too-many i = rw (lt-leb (size s) 64 i)
@@ -24,11 +17,14 @@ module _ (s : Waves) where
   unfolding fits
   fit-by-next i = rw (le-leb (size s) 64 i)
 
+  pub fit : size s ≤ 64 → next s < size s → fits s ≡ true
+  fit i k = fit-by-next i ∙ lt-ltb (next s) (size s) k
+
   pub inside-fit : fits s ≡ true → (size s ≤ 64) × (next s < size s)
-  unfolding fits
   inside-fit e =
-      let b = both (leb (size s) 64) (ltb (next s) (size s)) e in
-      (leb-true (size s) 64 (b .0), ltb-true (next s) (size s) (b .1))
+      by-order (size s) 64
+      (λ i. (i, ltb-true (next s) (size s) (sym (fit-by-next i) ∙ e)))
+      (λ i. absurd (true≢false (sym e ∙ too-many i)))
 
 module _ (i n : ℕ) where
   pub after-last : suc i ≡ n → following i n ≡ 0
