@@ -1,10 +1,12 @@
 //! `beside [COUNT [FIRST_SEED]]` holds the crate against the reference on lists of calls: a list of
 //! each kind for each of COUNT seeds, 2000 from 0 where not said. Each call goes to both, and both
-//! must answer it alike. It stops at the first difference, with the seed and the calls so far.
+//! must answer it alike and leave alike what they were lent to write. It stops at the first
+//! difference, with the seed and the calls so far.
 //!
 //! Words for the harness of the other tests, such as a filter, are none for this one:
 //! `cargo test --test all FILTER`.
 
+mod rows;
 mod waves;
 
 use std::collections::BTreeSet;
@@ -24,15 +26,25 @@ struct Kind {
     run: fn(u64, &mut Tally) -> Result<(), Difference>,
 }
 
-const KINDS: [Kind; 1] = [Kind {
-    name: "waves",
-    answers: &waves::ANSWERS,
-    run: waves::run,
-}];
+const KINDS: [Kind; 2] = [
+    Kind {
+        name: "waves",
+        answers: &waves::ANSWERS,
+        run: waves::run,
+    },
+    Kind {
+        name: "rows",
+        answers: &rows::ANSWERS,
+        run: rows::run,
+    },
+];
 
-/// An answer, of the crate as of the reference, with every bit that both give.
+/// An answer, of the crate as of the reference, with every bit that both give or write.
 trait Answer: Debug + PartialEq {
-    fn name(&self) -> &'static str;
+    type Call: Debug;
+
+    /// The names of this answer to the call.
+    fn names(&self, call: &Self::Call) -> Vec<&'static str>;
 }
 
 /// A floating number, compared by its bits.
@@ -62,7 +74,7 @@ impl Tally {
     /// Compares the answers to the last of the calls so far.
     fn compare<A: Answer>(
         &mut self,
-        calls: &[impl Debug],
+        calls: &[A::Call],
         reference: &A,
         library: &A,
     ) -> Result<(), Difference> {
@@ -74,7 +86,8 @@ impl Tally {
             });
         }
         self.alike += 1;
-        self.met.insert(reference.name());
+        let last = calls.last().expect("an answer has a call");
+        self.met.extend(reference.names(last));
         Ok(())
     }
 }
@@ -133,11 +146,16 @@ fn main() -> ExitCode {
             return ExitCode::from(2);
         }
     };
-    let alike: Option<u64> = KINDS.iter().map(|kind| kind.alike(count, first)).sum();
-    let Some(alike) = alike else {
-        return ExitCode::FAILURE;
-    };
-    let lists = count * KINDS.len() as u64;
-    println!("beside the reference: {lists} lists of calls, {alike} answers alike");
+    let mut held = Vec::new();
+    for kind in &KINDS {
+        let Some(alike) = kind.alike(count, first) else {
+            return ExitCode::FAILURE;
+        };
+        held.push(format!(
+            "{count} lists of {} with {alike} answers alike",
+            kind.name
+        ));
+    }
+    println!("beside the reference: {}", held.join(", "));
     ExitCode::SUCCESS
 }

@@ -46,8 +46,10 @@ pub const ANSWERS: [&str; 9] = [
 ];
 
 impl Answer for Answered {
-    fn name(&self) -> &'static str {
-        match self {
+    type Call = Call;
+
+    fn names(&self, _: &Call) -> Vec<&'static str> {
+        vec![match self {
             Answered::Started => "a start",
             Answered::Closed { .. } => "a closed seam",
             Answered::OpenLeft => "open left",
@@ -58,7 +60,7 @@ impl Answer for Answered {
             Answered::Refused(51) => "51",
             Answered::Refused(52) => "52",
             Answered::Refused(_) => "another number",
-        }
+        }]
     }
 }
 
