@@ -1,3 +1,3 @@
 -- The laws of the definitions, each file over one of them.
-pub mod Filling
+pub mod Places
 pub mod Contents

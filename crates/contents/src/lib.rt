@@ -7,13 +7,13 @@ use settings::Checked;
 use settings::Settings;
 ghost use mathlib.Core.Path.{_≡_};
 ghost use mathlib.Core.Bool.{true};
-ghost use mathlib.Core.List.{_++_};
 ghost use Prim.Native.Nat.{_+_, _*_, _≤_, _<_};
-ghost use lib.ListN.{length, take};
+ghost use lib.ListN.{length};
 ghost use Rattle.settings.specs.Refusal.{any-below};
 ghost use Rattle.settings.specs.Settings.{checked};
-ghost use Rattle.columns.specs.Columns.{predecessors, links-before};
+ghost use Rattle.columns.specs.Columns.{links-before};
 ghost use Rattle.columns.specs.Window.{four-senders};
+ghost use Rattle.columns.specs.Wrote.{Wrote};
 ghost use Rattle.contents.specs.Contents.{settings-in, times-in, late-start, drifts-in, links-in, tile-links, tile-place};
 
 // The latest row 0 time.
@@ -84,9 +84,7 @@ fn tile(width: usize, c: usize, body: &[u8], at: usize, links: &mut [u64], n: us
     requires { ⌜ (6 ≤ width) × (width ≤ 256) × (c < width) × (n ≡ links-before width c) × (at ≡ tile-place width c + 2) ⌝ }
     requires { ⌜ (n + 3 ≤ length (now links)) × (length (now links) ≤ 770) × (at + 24 ≤ length (now body)) × (length (now body) ≤ 6672) ⌝ }
     requires { ⌜ (four-senders width c ≡ true → (n + 4 ≤ length (now links)) × (at + 32 ≤ length (now body))) ⌝ }
-    ensures links { λ r. ⌜ take r (now (links .exit)) ≡ take n (now (links .entry)) ++ tile-links width (now (body .entry)) c ⌝ }
-    ensures end { λ r. ⌜ r ≡ n + length (predecessors width c) ⌝ }
-    ensures room { λ r. ⌜ length (now (links .exit)) ≡ length (now (links .entry)) ⌝ }
+    ensures { λ r. ⌜ Wrote (now (links .entry)) n (tile-links width (now (body .entry)) c) (now (links .exit)) r ⌝ }
 {
     links[n] = eight(body, at);
     links[n + 1] = eight(body, at + 8);

@@ -1,5 +1,4 @@
 pub mod Number
 pub mod Line
 pub mod Row
-pub mod Wrote
 pub mod Promises

@@ -6,7 +6,7 @@ ghost use Prim.Native.Nat.{_+_, _≤_, _<_};
 ghost use lib.ListN.{length};
 ghost use Rattle.lines.specs.Number.{glyph as Number·glyph, decimal as Number·decimal};
 ghost use Rattle.lines.specs.Line.{space, refused-line};
-ghost use Rattle.lines.specs.Wrote.{Wrote};
+ghost use Rattle.columns.specs.Wrote.{Wrote};
 
 // Room for the text of any step.
 pub const ROOM: usize = 24_640;

@@ -1,3 +1,3 @@
 -- The laws of the definitions, each file over one of them.
-pub mod Table
 pub mod Ends
+pub mod Progress

@@ -1,3 +1,3 @@
+pub mod Cases
 pub mod Laws
 pub mod Promises
-pub mod Cases

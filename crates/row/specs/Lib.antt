@@ -1,4 +1,4 @@
 pub mod Row
-pub mod Cases
--- the code's own
 pub mod Progress
+pub mod Promises
+pub mod Cases

@@ -1,4 +1,4 @@
-// A row as it is written, from its first column on.
+// A row as it is filled, from its first column on.
 use columns::plain;
 use pulse::correct;
 use pulse::pulse;
@@ -7,14 +7,12 @@ use settings::Settings;
 use settings::rounding::larger;
 use settings::rounding::smaller;
 ghost use mathlib.Core.Path.{_≡_};
-ghost use Prim.Native.Nat.{_+_, _<_, min, max};
-ghost use lib.ListN.{length};
+ghost use Prim.Native.Nat.{_≤_, _<_};
+ghost use lib.ListN.{length, set};
 ghost use Rattle.settings.specs.Settings.{step-of};
-ghost use Rattle.rule.specs.Stamp.{silence};
 ghost use Rattle.admission.specs.Call.{call};
-ghost use Rattle.pulse.specs.Pulse.{pulse};
 ghost use Rattle.admission.specs.Refusal.{row-refusal};
-ghost use Rattle.row.specs.Progress.{Filled-with-ends};
+ghost use Rattle.row.specs.Progress.{none-done, with-time, So-far};
 
 pub struct Progress {
     // The first column that is not yet written.
@@ -26,7 +24,7 @@ pub struct Progress {
 
 impl Progress {
     pub fn none() -> Self
-        ensures { λ r. ⌜ (r .next ≡ 0) × (r .earliest ≡ silence) × (r .latest ≡ 0) ⌝ }
+        ensures { λ r. ⌜ r ≡ none-done ⌝ }
     {
         Self {
             next: 0,
@@ -35,15 +33,21 @@ impl Progress {
         }
     }
 
-    // With the next column's time.
-    fn with(self, time: u64) -> Self
-        requires { ⌜ self .next < 256 ⌝ }
-        ensures { λ r. ⌜ (r .next ≡ self .next + 1) × (r .earliest ≡ min (self .earliest) time) × (r .latest ≡ max (self .latest) time) ⌝ }
+    // Writes the next column's time, and takes it into the earliest and the latest.
+    fn put(self, time: u64, times: &mut [u64]) -> Self
+        requires { ⌜ (self .next < length (now times)) × (length (now times) ≤ 256) ⌝ }
+        ensures row { λ _. ⌜ now (times .exit) ≡ set (now (times .entry)) (self .next) time ⌝ }
+        ensures ends { λ r. ⌜ r ≡ with-time self time ⌝ }
     {
+        let c = self.next;
+        times[c] = time;
+        let next = c + 1;
+        let earliest = smaller(self.earliest, time);
+        let latest = larger(self.latest, time);
         Self {
-            next: self.next + 1,
-            earliest: smaller(self.earliest, time),
-            latest: larger(self.latest, time),
+            next,
+            earliest,
+            latest,
         }
     }
 }
@@ -60,22 +64,20 @@ pub fn further(
     done: Progress,
 ) -> Progress
     requires { ⌜ (row-refusal settings (now before) (call (now marks) (now drifts) (now links) (settings .width)) ≡ 0) × (step ≡ step-of settings) × (length (now times) ≡ settings .width) × (done .next < settings .width) ⌝ }
-    requires { ⌜ Filled-with-ends (pulse settings (now before) (call (now marks) (now drifts) (now links) (settings .width))) (now times) (now times) (done .earliest) (done .latest) (done .next) ⌝ }
-    ensures written { λ r. ⌜ Filled-with-ends (pulse settings (now (before .entry)) (call (now (marks .entry)) (now (drifts .entry)) (now (links .entry)) (settings .width))) (now (times .entry)) (now (times .exit)) (r .earliest) (r .latest) (r .next) ⌝ }
+    requires { ⌜ So-far settings (now before) (call (now marks) (now drifts) (now links) (settings .width)) (now times) (now times) done ⌝ }
+    ensures filled { λ r. ⌜ So-far settings (now (before .entry)) (call (now (marks .entry)) (now (drifts .entry)) (now (links .entry)) (settings .width)) (now (times .entry)) (now (times .exit)) r ⌝ }
     ensures onward { λ r. ⌜ done .next < r .next ⌝ }
 {
     let first = done.next;
     if !plain(before.len(), marks, first) {
         let time = pulse(settings, step, before, marks, drifts, links, first);
-        times[first] = time;
-        return done.with(time);
+        return done.put(time, times);
     }
     let mut so_far = done;
     while so_far.next < first + 8 {
         let c = so_far.next;
         let time = correct(settings, step, drifts[c] as u64, before, links, c);
-        times[c] = time;
-        so_far = so_far.with(time);
+        so_far = so_far.put(time, times);
     }
     so_far
 }

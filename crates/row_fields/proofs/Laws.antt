@@ -9,7 +9,8 @@ use borrow.Author.Tests.{eq-eqb, ne-eqb}
 use Rattle.settings.specs.declared.Settings.{Settings}
 use Rattle.settings.proofs.Laws.Cases.{by-equal}
 use Rattle.admission.specs.Call.{call}
-use Rattle.row.specs.Row.{row-of, number-of, planned, written, Row-answered}
+use Rattle.row.specs.Row.{row-of, number-of, planned, written}
+use Rattle.row.specs.Promises.{Row-answered}
 use Rattle.columns.specs.Marks.{mark-bytes}
 use Rattle.admission.specs.Refusal.{row-refusal}
 use Rattle.row.proofs.Promises.{row-answered}

@@ -19,7 +19,7 @@ ghost use Rattle.lines.specs.Row.{each-below, each-of, right-neighbours, seam-t
 ghost use Rattle.tables.specs.Word.{bytes, spaced, Tables};
 ghost use Rattle.tile_lines.specs.Tile.{Coded};
 ghost use Rattle.seam_lines.specs.Seam.{Numbers, seam-after, run-after};
-ghost use Rattle.lines.specs.Wrote.{Wrote};
+ghost use Rattle.columns.specs.Wrote.{Wrote};
 
 // The words of an open seam, the first byte lowest: `open` and a space, a side and the end of the line.
 const OPEN: u64 = 0x20_6e65_706f;

@@ -9,7 +9,7 @@ use settings::rounding::smaller;
 use stages::Place;
 ghost use Prim.Native.Nat.{_+_, _*_, _≤_};
 ghost use lib.ListN.{length, take};
-ghost use Rattle.lines.specs.Wrote.{Wrote};
+ghost use Rattle.columns.specs.Wrote.{Wrote};
 ghost use Rattle.lines.specs.Row.{step-room};
 ghost use Rattle.reach.specs.Search.{reach-in-row};
 ghost use Rattle.search_lines.specs.Text.{line-text, largest-text, reach-text, gap-text};

@@ -9,7 +9,7 @@ ghost use Prim.Native.Nat.{_+_, _≤_};
 ghost use lib.ListN.{length};
 ghost use Rattle.columns.specs.Marks.{mark-bytes};
 ghost use Rattle.tables.specs.Word.{Tables};
-ghost use Rattle.lines.specs.Wrote.{Wrote};
+ghost use Rattle.columns.specs.Wrote.{Wrote};
 ghost use Rattle.steps.specs.Shown.{row-shown, no-marks};
 ghost use Rattle.show.specs.Text.{texts-of};
 ghost use Rattle.steps.specs.Step.{step-of};

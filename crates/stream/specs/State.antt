@@ -6,7 +6,7 @@ use Prim.Native.Nat.{ℕ, _+_, _-_, _≤_, min}
 use lib.Dec.{ltb}
 use lib.ListN.{length, take}
 use Rattle.lines.specs.Row.{step-room}
-use Rattle.lines.specs.Wrote.{Wrote}
+use Rattle.columns.specs.Wrote.{Wrote}
 use Rattle.stages.specs.Fit.{due-of, width-of}
 use Rattle.window.specs.Window.{In-buffer, bytes-in, lacking, Filled-up}
 use Rattle.file.specs.Stands.{Stands}

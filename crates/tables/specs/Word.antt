@@ -37,16 +37,6 @@ triple n = pair 16 (n / 16) + 65536 * glyph (n % 16)
 unfoldable pub Holds : (table : List ℕ) → (at count : ℕ) → (ℕ → ℕ) → Type 0
 Holds t at n f = (k : ℕ) → k < n → getD t (at + k) 0 ≡ f k
 
--- §13.2 what a table held before a place is as it was
-unfoldable pub Kept : (before after : List ℕ) → (at : ℕ) → Type 0
-Kept a b at = (k : ℕ) → k < at → getD b k 0 ≡ getD a k 0
-
--- §13.4 a part of a table has been filled, and what stands before it is as it was
-pub record Table-part (before after : List ℕ) (at count : ℕ) (f : ℕ → ℕ) : Type 0 where
-  pub as-long : length after ≡ length before
-  pub kept : Kept before after at
-  pub holds : Holds after at count f
-
 -- §10.3 words of hexadecimal digits, three as the first and as the next, and two as the last; of pairs of decimal digits at each of the four
 -- places of a word; of each column with a space after it, and how long that is
 pub record Tables (t : List ℕ) : Type 0 where

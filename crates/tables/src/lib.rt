@@ -3,8 +3,10 @@
 ghost use mathlib.Core.Path.{_≡_};
 ghost use Prim.Native.Nat.{_+_, _*_, _≤_, _<_};
 ghost use lib.ListN.{length};
+ghost use Rattle.columns.specs.Columns.{table-from};
+ghost use Rattle.columns.specs.Wrote.{Wrote};
 ghost use Rattle.lines.specs.Number.{glyph as Number·glyph};
-ghost use Rattle.tables.specs.Word.{pair, triple, spaced, word-of, Holds, Table-part, Tables};
+ghost use Rattle.tables.specs.Word.{pair, triple, spaced, word-of, Holds, Tables};
 
 // Where the parts stand. Eight hexadecimal digits are three, three and two of them: words of each three as
 // the first and as the next, and of each pair as the last. Eight decimal digits are four pairs.
@@ -55,7 +57,7 @@ pub fn fill(table: &mut [u64])
 // The pairs of digits in a base, at one place of a word.
 fn pairs(base: u64, place: u64, table: &mut [u64], at: usize)
     requires { ⌜ (1 < base) × (base ≤ 16) × (place ≤ 281474976710656) × (at + base * base ≤ length (now table)) ⌝ }
-    ensures { λ _. ⌜ Table-part (now (table .entry)) (now (table .exit)) at (base * base) (λ k. pair base k * place) ⌝ }
+    ensures { λ _. ⌜ Wrote (now (table .entry)) at (table-from (base * base) 0 (λ k. pair base k * place)) (now (table .exit)) (at + base * base) ⌝ }
 {
     let count = base * base;
     let mut k: u64 = 0;
@@ -67,7 +69,7 @@ fn pairs(base: u64, place: u64, table: &mut [u64], at: usize)
 
 fn columns(table: &mut [u64])
     requires { ⌜ length (now table) ≡ 9616 ⌝ }
-    ensures { λ _. ⌜ Table-part (now (table .entry)) (now (table .exit)) 912 256 (λ k. word-of (spaced k)) ⌝ }
+    ensures { λ _. ⌜ Wrote (now (table .entry)) 912 (table-from 256 0 (λ k. word-of (spaced k))) (now (table .exit)) 1168 ⌝ }
 {
     let mut k: u64 = 0;
     while k < 256 {
@@ -78,7 +80,7 @@ fn columns(table: &mut [u64])
 
 fn lengths(table: &mut [u64])
     requires { ⌜ length (now table) ≡ 9616 ⌝ }
-    ensures { λ _. ⌜ Table-part (now (table .entry)) (now (table .exit)) 1168 256 (λ k. length (spaced k)) ⌝ }
+    ensures { λ _. ⌜ Wrote (now (table .entry)) 1168 (table-from 256 0 (λ k. length (spaced k))) (now (table .exit)) 1424 ⌝ }
 {
     let mut k: u64 = 0;
     while k < 256 {
@@ -90,7 +92,7 @@ fn lengths(table: &mut [u64])
 // Each three hexadecimal digits: the pair of the first two, and the third.
 fn first_triples(table: &mut [u64])
     requires { ⌜ (length (now table) ≡ 9616) × Holds (now table) 0 256 (λ k. pair 16 k * 1) ⌝ }
-    ensures { λ _. ⌜ Table-part (now (table .entry)) (now (table .exit)) 1424 4096 triple ⌝ }
+    ensures { λ _. ⌜ Wrote (now (table .entry)) 1424 (table-from 4096 0 triple) (now (table .exit)) 5520 ⌝ }
 {
     let mut k: u64 = 0;
     while k < 4096 {
@@ -103,7 +105,7 @@ fn first_triples(table: &mut [u64])
 // The same, three bytes on.
 fn next_triples(table: &mut [u64])
     requires { ⌜ (length (now table) ≡ 9616) × Holds (now table) 1424 4096 triple ⌝ }
-    ensures { λ _. ⌜ Table-part (now (table .entry)) (now (table .exit)) 5520 4096 (λ k. triple k * 16777216) ⌝ }
+    ensures { λ _. ⌜ Wrote (now (table .entry)) 5520 (table-from 4096 0 (λ k. triple k * 16777216)) (now (table .exit)) 9616 ⌝ }
 {
     let mut k: u64 = 0;
     while k < 4096 {

@@ -2,7 +2,7 @@
 use mathlib.Core.Path.{_≡_}
 use mathlib.Core.List.{List}
 use Prim.Native.Nat.{ℕ}
-use Rattle.lines.specs.Wrote.{Wrote}
+use Rattle.columns.specs.Wrote.{Wrote}
 use Rattle.telling.specs.Telling.{Telling}
 use Rattle.telling.specs.declared.Told.{Told}
 

@@ -6,7 +6,7 @@ ghost use Prim.Native.Nat.{_+_, _≤_};
 ghost use lib.ListN.{length};
 ghost use Rattle.columns.specs.Marks.{mark-bytes};
 ghost use Rattle.lines.specs.Row.{row-text, row-room};
-ghost use Rattle.lines.specs.Wrote.{Wrote};
+ghost use Rattle.columns.specs.Wrote.{Wrote};
 ghost use Rattle.tables.specs.Word.{Tables};
 
 // Writes the lines of a row: its tiles, then its seams. `table::fill` makes the tables.

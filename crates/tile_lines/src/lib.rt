@@ -21,7 +21,7 @@ ghost use Rattle.lines.specs.Row.{each-below, tile-text};
 ghost use Rattle.tables.specs.Word.{bytes, Tables};
 ghost use Rattle.tile_lines.specs.Near.{Serves, Right};
 ghost use Rattle.tile_lines.specs.Tile.{Coded, tile-after, code as Word·code};
-ghost use Rattle.lines.specs.Wrote.{Wrote};
+ghost use Rattle.columns.specs.Wrote.{Wrote};
 
 // A code of a tile that is faulty, later than every time.
 const FAULTY: u64 = 18_446_744_073_709_551_615;

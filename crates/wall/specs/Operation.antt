@@ -6,7 +6,7 @@ use mathlib.Core.Option.{Option, none, some}
 use Prim.Native.Nat.{ℕ, _+_}
 use lib.Dec.{leb}
 use lib.ListN.{length}
-use Rattle.lines.specs.Wrote.{Wrote}
+use Rattle.columns.specs.Wrote.{Wrote}
 use Rattle.show.specs.Text.{texts-of}
 use Rattle.steps.specs.Step.{Stepped, step-of}
 use Rattle.stages.specs.declared.Wall.{Wall}

@@ -7,7 +7,7 @@ use mathlib.Core.Option.{none, some}
 use Prim.Native.Nat.{ℕ, _+_}
 use lib.ListN.{length}
 use Rattle.lines.specs.Line.{refused-line}
-use Rattle.lines.specs.Wrote.{Wrote}
+use Rattle.columns.specs.Wrote.{Wrote}
 use Rattle.show.specs.Text.{texts-of}
 use Rattle.steps.specs.Answer.{number-due, offset-due, wall-then, row-then, shown-then}
 use Rattle.stages.specs.declared.Wall.{Wall}

@@ -17,7 +17,7 @@ ghost use Prim.Native.Nat.{_+_, _≤_, _<_};
 ghost use lib.ListN.{length};
 ghost use Rattle.lines.specs.Number.{hexadecimal};
 ghost use Rattle.tables.specs.Word.{bytes, word-of, padded, spaced, Tables};
-ghost use Rattle.lines.specs.Wrote.{Wrote};
+ghost use Rattle.columns.specs.Wrote.{Wrote};
 
 // The eight bytes of a word. Stores in rising order become one.
 pub fn put(word: u64, out: &mut [u8], at: usize)

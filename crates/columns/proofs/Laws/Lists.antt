@@ -1,7 +1,7 @@
 -- What holds of each column that a test takes holds of the list of them, mapped or counted. Assumes nothing.
 use mathlib.Core.Path.{_≡_, refl, sym, _∙_, ap}
 use mathlib.Core.Bool.{Bool, true, false, cond, true≢false}
-use mathlib.Core.List.{List, _∷_, map}
+use mathlib.Core.List.{List, [], _∷_, _++_, map}
 use Prim.Native.Nat.{ℕ, zero, suc, _+_, _≤_, _<_}
 use lib.ListN.{length, getD}
 use native.Mathlib.Omega.{arith}
@@ -99,3 +99,8 @@ module _ (f : ℕ → ℕ) where
   table-at zero a c i = let never : ⊥ = omega arith in absurd never
   table-at (suc n) a zero i = ap f (omega arith)
   table-at (suc n) a (suc c) i = table-at n (suc a) c (omega arith) ∙ ap f (omega arith)
+
+  pub table-grows : (n a : ℕ) → table-from (suc n) a f ≡ table-from n a f ++ (f (a + n) ∷ [])
+  unfolding table-from
+  table-grows zero a = let e : a + 0 ≡ a = omega arith in rw e
+  table-grows (suc n) a = let e : a + suc n ≡ suc a + n = omega arith in rw e (ap (λ (l : List ℕ). f a ∷ l) (table-grows n (suc a)))

@@ -4,8 +4,8 @@ use mathlib.Core.Bool.{true}
 use lib.ListN.{length-set}
 use native.Mathlib.Omega.{arith}
 use Rattle.columns.specs.Window.{four-senders}
-use Rattle.contents.proofs.Laws.Contents.{three-senders, with-fourth, three-links, four-links}
-use Rattle.contents.proofs.Laws.Filling.{three-places, four-places}
+use Rattle.contents.proofs.Laws.Contents.{three-links, four-links}
+use Rattle.contents.proofs.Laws.Places.{three-places, four-places}
 use borrow.Author.Needs.{needs}
 use Rattle.contents.proofs.tile.Statement.{statement}
 use Rattle.contents.proofs.tile.Tie as tie
@@ -86,11 +86,9 @@ returns c =
     let s = c .before .before .before .before .before .before .before .before in
     let a = s .args in
     let f = fourth (c .before) in
-    let e = s .pre .0 in (
-      four-places (a .links .now) (a .n) _ _ _ _ (omega (arith, s .pre .1 .1 f .0))
-          ∙ rw (four-links (a .width) (e .0) (a .c) (e .2) (a .body .now) (a .at) (e .4) f, c .eight4 .ensures, c .before .before .before .eight3 .ensures, c .before .before .before .before .eight2 .ensures, c .before .before .before .before .before .eight .ensures),
-      (rw (with-fourth (a .width) (e .0) (a .c) (e .2) f), simp length-set),
-    )
+    let e = s .pre .0 in
+    rw (four-links (a .width) (e .0) (a .c) (e .2) (a .body .now) (a .at) (e .4) f, ← c .eight4 .ensures, ← c .before .before .before .eight3 .ensures, ← c .before .before .before .before .eight2 .ensures, ← c .before .before .before .before .before .eight .ensures)
+    (four-places (a .links .now) (a .n) _ _ _ _ (omega (arith, s .pre .1 .1 f .0)))
 
 add-result-2 : tie.Need-add-result-2
 add-result-2 c = search needs
@@ -103,11 +101,9 @@ returns-2 c =
     let s = c .before .before .before .before .before .before .before in
     let a = s .args in
     let f = sym (c .before .four-senders .ensures) ∙ c .if1 .left in
-    let e = s .pre .0 in (
-      three-places (a .links .now) (a .n) _ _ _ (omega arith)
-          ∙ rw (three-links (a .width) (e .0) (a .c) (e .2) (a .body .now) (a .at) (e .4) f, c .before .before .eight3 .ensures, c .before .before .before .eight2 .ensures, c .before .before .before .before .eight .ensures),
-      (rw (three-senders (a .width) (e .0) (a .c) (e .2) f), simp length-set),
-    )
+    let e = s .pre .0 in
+    rw (three-links (a .width) (e .0) (a .c) (e .2) (a .body .now) (a .at) (e .4) f, ← c .before .before .eight3 .ensures, ← c .before .before .before .eight2 .ensures, ← c .before .before .before .before .eight .ensures)
+    (three-places (a .links .now) (a .n) _ _ _ (omega arith))
 
 pub tile-spec : {M : Type 1} → statement M
 tile-spec =

@@ -1,27 +1,28 @@
 -- `tiles` meets its contract. The loop's invariant: the drifts and links of the tiles passed are written. Assumes nothing.
 use mathlib.Core.Path.{_≡_, refl, sym, _∙_, ap}
-use mathlib.Core.List.{List, _++_}
+use mathlib.Core.List.{List}
 use Prim.Native.Nat.{ℕ, _+_, _-_, _*_, _≤_}
-use lib.ListN.{length, take}
-use lib.Seq.{take-all}
+use lib.ListN.{length}
 use native.Mathlib.Numerals.{add-one}
 use native.Mathlib.Omega.{arith}
 use Rattle.columns.specs.Columns.{predecessors, links-before, table-from}
 use Rattle.fields.specs.Bytes.{big-endian}
 use Rattle.columns.specs.Window.{Links-counted}
+use Rattle.columns.specs.Wrote.{Wrote}
+use Rattle.columns.proofs.Laws.Wrote.{wrote-none, wrote-more, wrote-then, wrote-within, wrote-whole, table-none, table-more}
 use Rattle.columns.proofs.Promises.{links-counted}
-use Rattle.contents.specs.Contents.{tile-place, drifts-in, tile-links, links-below, links-in}
-use Rattle.contents.proofs.Laws.Contents.{links-end, tile-end, three-at-least, with-fourth}
-use Rattle.contents.proofs.Laws.Filling.{Filled, none-filled, one-more, all-filled}
+use Rattle.contents.specs.Contents.{tile-place, drifts-in, links-below, links-in}
+use Rattle.contents.proofs.Laws.Contents.{links-below-length, links-end, tile-end, three-at-least, with-fourth}
 use Rattle.contents.proofs.tiles.Statement.{statement}
 use Rattle.contents.proofs.tiles.Tie as tie
 
 -- what the tiles below column c have left
 record Read-so-far (w : ℕ) (body drifts₀ links₀ drifts links : List ℕ) (c n : ℕ) : Type 0 where
-  pub drift : Filled (λ k. big-endian 2 body (tile-place w k)) drifts₀ drifts c
-  pub place : n ≡ links-before w c
-  pub same : length links ≡ length links₀
-  pub link : take n links ≡ links-below w body c
+  pub drift : Wrote drifts₀ 0 (table-from c 0 (λ k. big-endian 2 body (tile-place w k))) drifts c
+  pub link : Wrote links₀ 0 (links-below w body c) links n
+
+place : {w : ℕ} {body drifts₀ links₀ drifts links : List ℕ} {c n : ℕ} → Read-so-far w body drifts₀ links₀ drifts links c n → n ≡ links-before w c
+place {w} {body} {c = c} r = omega (arith, r .link .goes, links-below-length w body c)
 
 counted : (w : ℕ) → 6 ≤ w → links-before w w ≡ 3 * w + 2
 unfolding Links-counted
@@ -35,7 +36,7 @@ abbrev μ-loop : tie.MeasureT-loop
 
 loop-holds : tie.Need-loop-holds Inv-loop μ-loop
 unfolding links-before links-below
-loop-holds c = record { drift = none-filled _ _; place = refl; same = refl; link = refl }
+loop-holds c = record { drift = table-none _ _ 0; link = wrote-none _ 0 }
 
 -- the sizes at the loop's head
 abbrev start : tie.At-loop Inv-loop μ-loop → tie.Start Inv-loop μ-loop
@@ -53,8 +54,8 @@ in-wall c =
     let l = c .before .loop in
     let wide = s .pre .0 .0 in
     let i = c .loop-test .taken in (
-      omega (arith, l .inv .place, links-end (s .args .width) wide (l .c) i),
-      omega (arith, l .inv .place, tile-end (s .args .width) wide (l .c) i),
+      omega (arith, place (l .inv), links-end (s .args .width) wide (l .c) i),
+      omega (arith, place (l .inv), tile-end (s .args .width) wide (l .c) i),
       three-at-least (s .args .width) wide (l .c) i,
     )
 
@@ -77,7 +78,7 @@ mul-drifts : tie.Need-mul-drifts Inv-loop μ-loop
 mul-drifts c = omega (arith, in-wall (c .before))
 
 slice-write-drifts : tie.Need-slice-write-drifts Inv-loop μ-loop
-slice-write-drifts c = omega (arith, c .before .before .loop .inv .drift .same, c .before .loop-test .taken)
+slice-write-drifts c = omega (arith, c .before .before .loop .inv .drift .as-long, c .before .loop-test .taken)
 
 add-tile : tie.Need-add-tile Inv-loop μ-loop
 add-tile c = omega (arith, in-wall (c .before))
@@ -89,11 +90,11 @@ tile-requires c κs =
     let l = w .before in
     let s = start l in
     let i = in-wall w in (
-      (s .pre .0 .0, s .pre .0 .1, w .loop-test .taken, l .loop .inv .place, ap (λ (n : ℕ). 2 * l .loop .c + 8 * n + 2) (l .loop .inv .place)),
+      (s .pre .0 .0, s .pre .0 .1, w .loop-test .taken, place (l .loop .inv), ap (λ (n : ℕ). 2 * l .loop .c + 8 * n + 2) (place (l .loop .inv))),
       (
-        (omega (arith, i, l .loop .inv .same), omega (arith, l .loop .inv .same), omega (arith, i), omega arith),
+        (omega (arith, i, l .loop .inv .link .as-long), omega (arith, l .loop .inv .link .as-long), omega (arith, i), omega arith),
         λ f. let four = with-fourth (s .args .width) (s .pre .0 .0) (l .loop .c) (w .loop-test .taken) f in
-            (omega (arith, i, four, l .loop .inv .same), omega (arith, i, four)),
+            (omega (arith, i, four, l .loop .inv .link .as-long), omega (arith, i, four)),
       ),
     )
 
@@ -111,19 +112,18 @@ loop-again c =
     let w = two .before in
     let l = w .before in
     let e = l .loop .inv in
-    let place = t .tile .ensures .1 .0 in
+    let a = start l .args in
+    let drift-at = two .two .ensures .0 ∙ ap (λ (n : ℕ). big-endian 2 (a .body .now) (2 * l .loop .c + 8 * n)) (place e) in
     record {
-      drift = one-more (e .drift) (omega (arith, w .loop-test .taken)) (two .two .ensures .0 ∙ ap (λ (n : ℕ). big-endian 2 (start l .args .body .now) (2 * l .loop .c + 8 * n)) (e .place));
-      place = rw add-one (place ∙ ap (λ (n : ℕ). n + length (predecessors (start l .args .width) (l .loop .c))) (e .place));
-      same = t .tile .ensures .1 .1 ∙ e .same;
-      link = rw add-one (t .tile .ensures .0 ∙ ap (λ (x : List ℕ). x ++ tile-links (start l .args .width) (start l .args .body .now) (l .loop .c)) (e .link));
+      drift = wrote-more (e .drift) _ (omega (arith, w .loop-test .taken)) (table-more _ (l .loop .c) drift-at) refl;
+      link = rw add-one (wrote-then (e .link) (t .tile .ensures));
     }
 
 same-length : tie.Need-same-length Inv-loop μ-loop
-same-length c = c .before .loop .inv .drift .same
+same-length c = c .before .loop .inv .drift .as-long
 
 same-length-2 : tie.Need-same-length-2 Inv-loop μ-loop
-same-length-2 c = c .before .loop .inv .same
+same-length-2 c = c .before .loop .inv .link .as-long
 
 returns : tie.Need-returns Inv-loop μ-loop
 unfolding drifts-in links-in
@@ -131,10 +131,10 @@ returns c =
     let l = c .before in
     let s = start l in
     let e = l .loop .inv in
-    let end : l .loop .c ≡ s .args .width = omega (arith, c .loop-test .left, e .drift .within) in (
-      all-filled (e .drift) (end ∙ sym (s .pre .1 .0)) ∙ ap (λ (n : ℕ). table-from n 0 (λ k. big-endian 2 (s .args .body .now) (tile-place (s .args .width) k))) (s .pre .1 .0),
-      sym (take-all (l .loop .n) (l .loop .links) (omega (arith, e .same, e .place, ap (links-before (s .args .width)) end, counted (s .args .width) (s .pre .0 .0))))
-          ∙ e .link ∙ ap (links-below (s .args .width) (s .args .body .now)) end,
+    let end : l .loop .c ≡ s .args .width = omega (arith, c .loop-test .left, wrote-within (e .drift) (omega arith), s .pre .1 .0) in
+    let last : l .loop .n ≡ length (s .args .links .now) = omega (arith, place e, ap (links-before (s .args .width)) end, counted (s .args .width) (s .pre .0 .0), s .pre .1 .1) in (
+      wrote-whole (e .drift) (end ∙ sym (s .pre .1 .0)) ∙ ap (λ (n : ℕ). table-from n 0 (λ k. big-endian 2 (s .args .body .now) (tile-place (s .args .width) k))) end,
+      wrote-whole (e .link) last ∙ ap (links-below (s .args .width) (s .args .body .now)) end,
     )
 
 pub tiles-spec : {M : Type 1} → statement M

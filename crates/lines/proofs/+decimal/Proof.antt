@@ -7,7 +7,7 @@ use lib.ListN.{length, length-append}
 use borrow.Fn.Kinds.{In}
 use borrow.Fn.PlainCycle.{Measures, is, falls, and}
 use Rattle.lines.specs.Number.{glyph, decimal as N·decimal}
-use Rattle.lines.proofs.Laws.Wrote.{wrote-then, wrote-as, room-left}
+use Rattle.columns.proofs.Laws.Wrote.{wrote-then, wrote-as, room-left}
 use Rattle.lines.proofs.Laws.Number.{decimal-one, decimal-more}
 use Rattle.lines.proofs.decimal.Reads as decimal
 use Rattle.lines.proofs.decimal.Kinds as decimal-kinds

@@ -1,7 +1,7 @@
 -- `refused_line` meets its contract. Assumes nothing.
 use native.Mathlib.Omega.{arith}
 use borrow.Author.Needs.{needs}
-use Rattle.lines.proofs.Laws.Wrote.{wrote-then}
+use Rattle.columns.proofs.Laws.Wrote.{wrote-then}
 use Rattle.lines.proofs.Laws.Number.{decimal-length}
 use Rattle.lines.specs.Line.{refused-line}
 use Rattle.lines.proofs.refused_line.Statement.{statement}

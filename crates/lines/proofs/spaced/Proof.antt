@@ -1,6 +1,6 @@
 -- `spaced` meets its contract. Assumes nothing.
 use borrow.Author.Needs.{needs}
-use Rattle.lines.proofs.Laws.Wrote.{wrote-then}
+use Rattle.columns.proofs.Laws.Wrote.{wrote-then}
 use Rattle.lines.proofs.spaced.Statement.{statement}
 use Rattle.lines.proofs.spaced.Tie as tie
 

@@ -3,8 +3,8 @@ use Prim.Native.Nat.{_+_, _-_, _≤_}
 use lib.ListN.{length, take}
 use lib.Seq.{take-all}
 use native.Mathlib.Omega.{arith}
-use Rattle.lines.specs.Wrote.{Wrote}
-use Rattle.lines.proofs.Laws.Wrote.{wrote-as, wrote-more, wrote-from}
+use Rattle.columns.specs.Wrote.{Wrote}
+use Rattle.columns.proofs.Laws.Wrote.{wrote-none, wrote-more, wrote-end, wrote-as, copy-more}
 use Rattle.lines.proofs.word.Statement.{statement}
 use Rattle.lines.proofs.word.Tie as tie
 
@@ -15,7 +15,7 @@ abbrev μ-loop : tie.MeasureT-loop
 μ-loop text out₀ at i₀ out i = length text - i
 
 loop-holds : tie.Need-loop-holds Inv-loop μ-loop
-loop-holds c = (omega arith, wrote-from (c .args .out .now) (c .args .at))
+loop-holds c = let a = c .args in (omega arith, wrote-end (wrote-none (a .out .now) (a .at)) (a .at + 0) (omega arith))
 
 shared-slice-read-out : tie.Need-shared-slice-read-out Inv-loop μ-loop
 shared-slice-read-out c = omega arith
@@ -36,7 +36,7 @@ loop-again : tie.Need-loop-again Inv-loop μ-loop
 loop-again c =
     let a = c .before .before .before .args in
     let l = c .before .before .loop in
-    (omega arith, wrote-more (a .text .now) (a .at) (l .i) (omega arith) (omega arith) (l .inv .1))
+    (omega arith, wrote-more (l .inv .1) _ (omega arith) (copy-more (a .text .now) (l .i) (omega arith)) (omega arith))
 
 add-result : tie.Need-add-result Inv-loop μ-loop
 add-result c = omega arith

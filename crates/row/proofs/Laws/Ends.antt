@@ -1,63 +1,80 @@
--- The least and the most of a table: no entry lies outside, and both are entries. Assumes nothing.
-use mathlib.Core.Path.{_≡_, _∙_}
-use Prim.Native.Nat.{ℕ, zero, suc, _+_, _≤_, _<_}
+-- The least and the most of some times: none lies outside, both are among them, and a time more. Assumes nothing.
+use mathlib.Core.Path.{_≡_, sym, _∙_}
+use mathlib.Core.List.{List, [], _∷_, _++_}
+use Prim.Native.Nat.{ℕ, zero, suc, _≤_, _<_, min, max}
+use lib.ListN.{length, getD, take}
+use lib.Seq.{length-take-le, getD-take}
 use native.Mathlib.Omega.{arith}
 use Rattle.rule.specs.Stamp.{silence}
 use Rattle.settings.proofs.Laws.Cases.{by-order}
-use Rattle.columns.specs.Columns.{table-from}
-use Rattle.columns.proofs.Laws.Lists.{table-at}
-use Rattle.row.specs.Row.{least-of, most-of, Some-tile, Ends}
+use Rattle.row.specs.Row.{least-of, most-of}
+use Rattle.row.specs.Promises.{Some-tile, Ends}
 
-module _ (f : ℕ → ℕ) where
-  -- an entry of a table of n, from a on
-  pub record Entry (n a v : ℕ) : Type 0 where
-    pub place : ℕ
-    pub inside : place < n
-    pub there : f (a + place) ≡ v
+pub least-grows : (l : List ℕ) (t : ℕ) → least-of (l ++ (t ∷ [])) ≡ min (least-of l) t
+unfolding least-of
+least-grows [] t = omega arith
+least-grows (u ∷ l) t = omega (arith, least-grows l t)
 
-  pub least-most : (n a c : ℕ) → c < n → (least-of (table-from n a f) ≤ f (a + c)) × (f (a + c) ≤ most-of (table-from n a f))
-  unfolding least-of most-of table-from
-  least-most zero a c i = let never : ⊥ = omega arith in absurd never
-  least-most (suc n) a zero i = let e : a + 0 ≡ a = omega arith in rw e (omega arith)
-  least-most (suc n) a (suc c) i = let e : a + suc c ≡ suc a + c = omega arith in rw e (omega (arith, least-most n (suc a) c (omega arith)))
+pub most-grows : (l : List ℕ) (t : ℕ) → most-of (l ++ (t ∷ [])) ≡ max (most-of l) t
+unfolding most-of
+most-grows [] t = omega arith
+most-grows (u ∷ l) t = omega (arith, most-grows l t)
 
-  here : (n a v : ℕ) → f a ≡ v → Entry (suc n) a v
-  here n a v e = record { place = 0; inside = omega arith; there = let z : a + 0 ≡ a = omega arith in rw z e }
+least-most : (l : List ℕ) (c : ℕ) → c < length l → (least-of l ≤ getD l c 0) × (getD l c 0 ≤ most-of l)
+unfolding least-of most-of
+least-most [] c i = let never : ⊥ = omega arith in absurd never
+least-most (t ∷ l) zero i = (omega arith, omega arith)
+least-most (t ∷ l) (suc c) i = let r = least-most l c (omega arith) in (omega (arith, r .0), omega (arith, r .1))
 
-  there-too : (n a v w : ℕ) → v ≡ w → Entry n (suc a) v → Entry (suc n) a w
-  there-too n a v w e y =
-      record { place = suc (y .place); inside = omega (arith, y .inside); there = let z : a + suc (y .place) ≡ suc a + y .place = omega arith in rw z (y .there ∙ e) }
+here : (t v : ℕ) (l : List ℕ) → t ≡ v → Some-tile (suc (length l)) (t ∷ l) v
+here t v l e = record { column = 0; in-row = omega arith; there = e }
 
-  -- times are no later than silence
-  pub least-met : (n a : ℕ) → ((c : ℕ) → c < suc n → f (a + c) ≤ silence) → Entry (suc n) a (least-of (table-from (suc n) a f))
-  unfolding least-of table-from
-  least-met zero a small = here 0 a _ (let z : a + 0 ≡ a = omega arith in omega (arith, rw z at (small 0 (omega arith))))
-  least-met (suc n) a small =
-      let rest = least-of (table-from (suc n) (suc a) f) in
-      by-order (f a) rest
-      (λ i. here (suc n) a _ (omega (arith, i)))
-      (λ i. there-too (suc n) a rest _ (omega (arith, i))
-      (least-met n (suc a) (λ c j. let z : suc a + c ≡ a + suc c = omega arith in rw z (small (suc c) (omega arith)))))
+there-too : (t v w : ℕ) (l : List ℕ) → v ≡ w → Some-tile (length l) l v → Some-tile (suc (length l)) (t ∷ l) w
+there-too t v w l e y = record { column = suc (y .column); in-row = omega (arith, y .in-row); there = rw (y .there) e }
 
-  pub most-met : (n a : ℕ) → Entry (suc n) a (most-of (table-from (suc n) a f))
-  unfolding most-of table-from
-  most-met zero a = here 0 a _ (omega arith)
-  most-met (suc n) a =
-      let rest = most-of (table-from (suc n) (suc a) f) in
-      by-order rest (f a)
-      (λ i. here (suc n) a _ (omega (arith, i)))
-      (λ i. there-too (suc n) a rest _ (omega (arith, i)) (most-met n (suc a)))
+-- times are no later than silence
+least-met : (t : ℕ) (l : List ℕ) → ((c : ℕ) → c < suc (length l) → getD (t ∷ l) c 0 ≤ silence) → Some-tile (suc (length l)) (t ∷ l) (least-of (t ∷ l))
+unfolding least-of
+least-met t [] small = here t _ [] (omega (arith, small 0 (omega arith)))
+least-met t (u ∷ l) small =
+    by-order t (least-of (u ∷ l))
+    (λ i. here t _ (u ∷ l) (omega (arith, i)))
+    (λ i. there-too t _ _ (u ∷ l) (omega (arith, i)) (least-met u l (λ c j. small (suc c) (omega arith))))
 
-  -- so they are the ends of the table as a row
-  some-tile : {n v : ℕ} → Entry n 0 v → Some-tile n (table-from n 0 f) v
-  some-tile {n} y = record { column = y .place; in-row = y .inside; there = table-at f n 0 (y .place) (y .inside) ∙ y .there }
+most-met : (t : ℕ) (l : List ℕ) → Some-tile (suc (length l)) (t ∷ l) (most-of (t ∷ l))
+unfolding most-of
+most-met t [] = here t _ [] (omega arith)
+most-met t (u ∷ l) =
+    by-order (most-of (u ∷ l)) t
+    (λ i. here t _ (u ∷ l) (omega (arith, i)))
+    (λ i. there-too t _ _ (u ∷ l) (omega (arith, i)) (most-met u l))
 
-  pub table-ends : (w : ℕ) → 0 < w → ((c : ℕ) → c < w → f c ≤ silence) → Ends w (table-from w 0 f) (least-of (table-from w 0 f)) (most-of (table-from w 0 f))
-  table-ends zero i small = let never : ⊥ = omega arith in absurd never
-  table-ends (suc n) i small =
+pub list-ends : (l : List ℕ) → 0 < length l → ((c : ℕ) → c < length l → getD l c 0 ≤ silence) → Ends (length l) l (least-of l) (most-of l)
+list-ends [] i small = let never : ⊥ = omega arith in absurd never
+list-ends (t ∷ l) i small =
+    record {
+      from = λ c j. least-most (t ∷ l) c j .0;
+      to = λ c j. least-most (t ∷ l) c j .1;
+      first = least-met t l small;
+      last = most-met t l;
+    }
+
+-- the first times of a row, as those of its first tiles
+module _ (row : List ℕ) (n : ℕ) (room : n ≤ length row) where
+  long : length (take n row) ≡ n
+  long = length-take-le n row room
+
+  some-tile : {v : ℕ} → Some-tile (length (take n row)) (take n row) v → Some-tile n row v
+  some-tile y =
+      let inside : y .column < n = omega (arith, y .in-row, long) in
+      record { column = y .column; in-row = inside; there = sym (getD-take n row (y .column) 0 inside) ∙ y .there }
+
+  pub front-ends : 0 < n → ((c : ℕ) → c < n → getD (take n row) c 0 ≤ silence) → Ends n row (least-of (take n row)) (most-of (take n row))
+  front-ends i small =
+      let ends = list-ends (take n row) (omega (arith, long)) (λ c j. small c (omega (arith, long))) in
       record {
-        from = λ c j. rw (table-at f (suc n) 0 c j) (least-most (suc n) 0 c j .0);
-        to = λ c j. rw (table-at f (suc n) 0 c j) (least-most (suc n) 0 c j .1);
-        first = some-tile (least-met n 0 (λ c j. let z : 0 + c ≡ c = omega arith in rw z (small c j)));
-        last = some-tile (most-met n 0);
+        from = λ c j. rw (getD-take n row c 0 j) at (ends .from c (omega (arith, long)));
+        to = λ c j. rw (getD-take n row c 0 j) at (ends .to c (omega (arith, long)));
+        first = some-tile (ends .first);
+        last = some-tile (ends .last);
       }

@@ -1,45 +1,34 @@
--- `plan` meets its contract. The loop's invariant: the places passed hold their tiles' pulses, and `earliest` and `latest` are
--- the least and the most of them. Assumes nothing.
-use mathlib.Core.Path.{_≡_, sym, _∙_, ap, subst}
+-- `plan` meets its contract. The loop's invariant: the row is filled so far. Assumes nothing.
+use mathlib.Core.Path.{_≡_, sym, _∙_, subst}
 use mathlib.Core.List.{List}
 use Prim.Native.Nat.{ℕ, _-_, _<_}
 use lib.ListN.{length}
 use native.Mathlib.Omega.{arith}
 use borrow.Author.Needs.{needs}
-use borrow.Author.Tests.{eq-eqb, ne-eqb}
 use Rattle.settings.specs.Settings.{step-of}
 use Rattle.settings.specs.declared.Settings.{Settings}
 use Rattle.settings.proofs.Laws.Settings.{limits}
 use Rattle.admission.specs.Call.{Call, call}
-use Rattle.pulse.specs.Pulse.{pulse}
-use Rattle.columns.specs.Columns.{table-from}
-use Rattle.row.specs.Row.{row-of, least-of, most-of, planned, written}
 use Rattle.admission.specs.Refusal.{row-refusal}
-use Rattle.row.specs.Progress.{Filled-with-ends}
-use Rattle.row.specs.declared.Planned.the-variants.{Row, Refused}
 use Rattle.admission.proofs.Laws.Accepted.{Accepted, accepted}
-use Rattle.row.proofs.Laws.Table.{none-filled, held-as, all-filled}
+use Rattle.row.specs.declared.Planned.the-variants.{Row, Refused}
+use Rattle.row.specs.Row.{planned, written}
+use Rattle.row.specs.Progress.{So-far}
+use Rattle.row.specs.Promises.{Filling, Running-ends}
+use Rattle.row.proofs.Laws.Progress.{so-far-over, so-far-within}
+use Rattle.row.proofs.Promises.{planned-refused, written-refused, running-ends}
 use Rattle.row.proofs.plan.Statement.{statement}
 use Rattle.row.proofs.plan.Tie as tie
 
--- the answer and the row, refused and written
-module _ (s : Settings) (ts : List ℕ) (x : Call) where
-  refused : (n : ℕ) (held : List ℕ) → n ≡ row-refusal s ts x → (n ≡ 0 → ⊥) → (Refused n ≡ planned s ts x) × (held ≡ written s ts x held)
-  unfolding planned written
-  refused n held e m =
-      let t = ne-eqb (row-refusal s ts x) 0 (λ z. m (e ∙ z)) in
-      (rw (t, e), rw t)
-
-  filled : (e l : ℕ) (held times : List ℕ) → row-refusal s ts x ≡ 0 → e ≡ least-of (row-of s ts x) → l ≡ most-of (row-of s ts x) → times ≡ row-of s ts x →
-      (Row e l ≡ planned s ts x) × (times ≡ written s ts x held)
-  unfolding planned written
-  filled e l held times z is-e is-l is-t =
-      let t = eq-eqb (row-refusal s ts x) 0 z in
-      (rw (t, is-e, is-l), rw t is-t)
+refused : (s : Settings) (ts : List ℕ) (x : Call) (n : ℕ) (held : List ℕ) → n ≡ row-refusal s ts x → (n ≡ 0 → ⊥) →
+    (Refused n ≡ planned s ts x) × (held ≡ written s ts x held)
+refused s ts x n held e m =
+    let not : row-refusal s ts x ≡ 0 → ⊥ = λ z. m (e ∙ z) in
+    (rw e (sym (planned-refused s ts x not)), sym (written-refused s ts x held not))
 
 abbrev Inv-loop : tie.InvT-loop
 Inv-loop settings before marks drifts links times₀ number step done₀ times done =
-    Filled-with-ends (pulse settings before (call marks drifts links (settings .width))) times₀ times (done .earliest) (done .latest) (done .next)
+    So-far settings before (call marks drifts links (settings .width)) times₀ times done
 
 abbrev μ-loop : tie.MeasureT-loop
 μ-loop settings before marks drifts links times₀ number step done₀ times done = length times₀ - done .next
@@ -82,6 +71,11 @@ returns c =
     let s = first (c .before) in
     refused (s .args .settings) (s .args .before .now) (lent s) (c .before .refusal .result) (s .args .times .now) (c .before .refusal .ensures) (c .if1 .taken)
 
+-- an accepted row is filled, from its first tile to its last
+filling : (c : tie.Else1 Inv-loop μ-loop) → let s = first (c .before) in Filling (s .args .settings) (s .args .before .now) (sized s) (s .args .times .now)
+unfolding Running-ends
+filling c = let s = first (c .before) in running-ends (s .args .settings) (s .args .before .now) (sized s) (s .args .times .now) (passed-sized c) (room c)
+
 step-requires : tie.Need-step-requires Inv-loop μ-loop
 step-requires c κs = let k = limits (first (c .before) .args .settings) (ok c .settings) in (k .unit .1, k .drift)
 
@@ -89,17 +83,14 @@ none-requires : tie.Need-none-requires Inv-loop μ-loop
 none-requires c κs = search needs
 
 loop-holds : tie.Need-loop-holds Inv-loop μ-loop
-loop-holds c =
-    let s = first (c .before .before .before) in
-    let e = c .none .ensures in
-    rw (e .0, e .1, e .2) (none-filled (pulse (s .args .settings) (s .args .before .now) (sized s)) (s .args .times .now))
+loop-holds c = rw (c .none .ensures) (filling (c .before .before) .first)
 
 -- at the loop's test
 abbrev accepted-at : tie.At-loop Inv-loop μ-loop → tie.Else1 Inv-loop μ-loop
 accepted-at c = c .before .before .before
 
 in-row : (c : tie.Then2 Inv-loop μ-loop) → let l = c .before .before in l .loop .done .next < start l .args .settings .width
-in-row c = let l = c .before .before in omega (arith, c .if2 .taken, l .loop .inv .same, room (accepted-at l))
+in-row c = let l = c .before .before in omega (arith, c .if2 .taken, l .loop .inv .pulses .as-long, room (accepted-at l))
 
 further-requires : tie.Need-further-requires Inv-loop μ-loop
 unfolding step-of
@@ -107,7 +98,7 @@ further-requires c κs =
     let l = c .before .before .before in
     let i = l .loop .inv in
     let e = accepted-at l in
-    ((passed-sized e, l .before .before .step .ensures, i .same ∙ room e, in-row (c .before)), held-as i (i .same))
+    ((passed-sized e, l .before .before .step .ensures, i .pulses .as-long ∙ room e, in-row (c .before)), so-far-over i (i .pulses .as-long))
 
 loop-less : tie.Need-loop-less Inv-loop μ-loop
 loop-less c =
@@ -120,30 +111,25 @@ loop-again : tie.Need-loop-again Inv-loop μ-loop
 loop-again c =
     let f = c .before .before in
     let l = f .before .before .before .before in
-    held-as (f .further .ensures .0) (sym (l .loop .inv .same))
+    so-far-over {x = sized (start l)} (f .further .ensures .0) (sym (l .loop .inv .pulses .as-long))
 
 same-length : tie.Need-same-length Inv-loop μ-loop
-same-length c = c .before .before .loop .inv .same
+same-length c = c .before .before .loop .inv .pulses .as-long
 
 returns-2 : tie.Need-returns-2 Inv-loop μ-loop
-unfolding row-of
 returns-2 c =
     let l = c .before .before in
-    let s = start l in
-    let a = s .args in
+    let a = start l .args in
     let i = l .loop .inv in
     let e = accepted-at l in
     let done = l .loop .done in
-    let w : done .next ≡ a .settings .width = omega (arith, c .if2 .left, i .same, i .within, room e) in
-    let f = pulse (a .settings) (a .before .now) (sized s) in
+    let w : done .next ≡ a .settings .width = omega (arith, c .if2 .left, i .pulses .as-long, so-far-within i, room e) in
+    let whole = filling e .last (l .loop .times) done i w in
     subst
     (λ (n : ℕ). let x = call (a .marks .now) (a .drifts .now) (a .links .now) n in
     (Row (done .earliest) (done .latest) ≡ planned (a .settings) (a .before .now) x) × (l .loop .times ≡ written (a .settings) (a .before .now) x (a .times .now)))
     (sym (room e))
-    (filled (a .settings) (a .before .now) (sized s) (done .earliest) (done .latest) (a .times .now) (l .loop .times) (passed-sized e)
-    (i .is-least ∙ ap (λ (n : ℕ). least-of (table-from n 0 f)) w)
-    (i .is-most ∙ ap (λ (n : ℕ). most-of (table-from n 0 f)) w)
-    (all-filled i (w ∙ sym (room e)) ∙ ap (λ (n : ℕ). table-from n 0 f) w))
+    (whole .1, whole .0)
 
 pub plan-spec : {M : Type 1} → statement M
 plan-spec =

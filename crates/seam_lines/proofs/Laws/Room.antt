@@ -7,8 +7,8 @@ use native.Mathlib.Omega.{arith}
 use lib.Dec.{leb}
 use lib.ListN.{length}
 use borrow.Author.Tests.{leb-true}
-use Rattle.lines.specs.Wrote.{Wrote}
-use Rattle.lines.proofs.Laws.Wrote.{room-left}
+use Rattle.columns.specs.Wrote.{Wrote}
+use Rattle.columns.proofs.Laws.Wrote.{room-left}
 use Rattle.seam_lines.specs.Seam.{run-after}
 use Rattle.seam_lines.proofs.Laws.Runs.{run-length}
 

@@ -1,6 +1,6 @@
 -- `closed_words` meets its contract: the digits of each half, with a space or the line's end after them. Assumes nothing.
 use borrow.Author.Needs.{needs}
-use Rattle.lines.proofs.Laws.Wrote.{wrote-then, wrote-as}
+use Rattle.columns.proofs.Laws.Wrote.{wrote-then, wrote-as}
 use Rattle.seam_lines.proofs.Laws.Line.{halves-text}
 use Rattle.seam_lines.proofs.closed_words.Statement.{statement}
 use Rattle.seam_lines.proofs.closed_words.Tie as tie

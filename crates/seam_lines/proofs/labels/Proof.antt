@@ -1,7 +1,7 @@
 -- `labels` meets its contract: a head and two columns, one after the other. Assumes nothing.
 use native.Mathlib.Omega.{arith}
 use borrow.Author.Needs.{needs}
-use Rattle.lines.proofs.Laws.Wrote.{wrote-then}
+use Rattle.columns.proofs.Laws.Wrote.{wrote-then}
 use Rattle.seam_lines.proofs.labels.Statement.{statement}
 use Rattle.seam_lines.proofs.labels.Tie as tie
 

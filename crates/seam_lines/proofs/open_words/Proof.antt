@@ -1,6 +1,6 @@
 -- `open_words` meets its contract. Assumes nothing.
 use borrow.Author.Needs.{needs}
-use Rattle.lines.proofs.Laws.Wrote.{wrote-then, wrote-as}
+use Rattle.columns.proofs.Laws.Wrote.{wrote-then, wrote-as}
 use Rattle.seam_lines.proofs.Laws.Line.{open-text}
 use Rattle.seam_lines.proofs.open_words.Statement.{statement}
 use Rattle.seam_lines.proofs.open_words.Tie as tie

@@ -4,8 +4,8 @@ use Prim.Native.Nat.{ℕ, _-_, _≤_}
 use native.Mathlib.Omega.{arith}
 use Rattle.tables.specs.Word.{bytes}
 use Rattle.seam_lines.specs.Seam.{run-after}
-use Rattle.lines.specs.Wrote.{Wrote}
-use Rattle.lines.proofs.Laws.Wrote.{wrote-none, wrote-then, wrote-as}
+use Rattle.columns.specs.Wrote.{Wrote}
+use Rattle.columns.proofs.Laws.Wrote.{wrote-none, wrote-then, wrote-as}
 use Rattle.tables.proofs.Laws.Word.{bytes-length}
 use Rattle.seam_lines.proofs.Laws.Runs.{run-none, run-more, run-length}
 use Rattle.seam_lines.proofs.run.Statement.{statement}

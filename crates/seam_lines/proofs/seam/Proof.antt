@@ -7,7 +7,7 @@ use borrow.Author.Needs.{needs}
 use Rattle.seam.specs.declared.Seam.{Seam}
 use Rattle.tables.specs.Word.{bytes}
 use Rattle.seam_lines.specs.Seam.{seam-after}
-use Rattle.lines.proofs.Laws.Wrote.{wrote-then, wrote-as}
+use Rattle.columns.proofs.Laws.Wrote.{wrote-then, wrote-as}
 use Rattle.tables.proofs.Laws.Word.{wrote-nothing}
 use Rattle.seam_lines.proofs.Laws.Line.{closed-numbers}
 use Rattle.seam_lines.proofs.seam.Statement.{statement}

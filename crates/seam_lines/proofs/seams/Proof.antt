@@ -9,7 +9,7 @@ use Rattle.columns.specs.Marks.{mark-bytes}
 use Rattle.tables.specs.Word.{bytes, Tables}
 use Rattle.tile_lines.specs.Tile.{Coded}
 use Rattle.seam_lines.specs.Seam.{run-after}
-use Rattle.lines.proofs.Laws.Wrote.{wrote-then, wrote-as}
+use Rattle.columns.proofs.Laws.Wrote.{wrote-then, wrote-as}
 use Rattle.tables.proofs.Laws.Word.{bytes-length}
 use Rattle.tile_lines.proofs.Laws.Code.{coded-all}
 use Rattle.seam_lines.proofs.Laws.Room.{Row, first-room, second-room, first-fits, third-fits, fourth-fits, fifth-fits, first-left, third-left, fourth-left}

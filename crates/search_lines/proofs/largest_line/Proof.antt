@@ -1,7 +1,7 @@
 -- `largest_line` meets its contract. Assumes nothing.
 use native.Mathlib.Omega.{arith}
 use borrow.Author.Needs.{needs}
-use Rattle.lines.proofs.Laws.Wrote.{wrote-then}
+use Rattle.columns.proofs.Laws.Wrote.{wrote-then}
 use Rattle.lines.proofs.Laws.Number.{decimal-length}
 use Rattle.search_lines.specs.Text.{largest-text}
 use Rattle.search_lines.proofs.largest_line.Statement.{statement}

@@ -5,9 +5,9 @@ use lib.ListN.{length, length-take, take, getD}
 use lib.Seq.{take-all}
 use native.Mathlib.Omega.{arith}
 use borrow.Author.Needs.{needs}
-use Rattle.lines.specs.Wrote.{Wrote}
+use Rattle.columns.specs.Wrote.{Wrote}
 use Rattle.lines.proofs.Laws.Number.{decimal-length}
-use Rattle.lines.proofs.Laws.Wrote.{wrote-none, wrote-then, wrote-as}
+use Rattle.columns.proofs.Laws.Wrote.{wrote-none, wrote-then, wrote-as}
 use Rattle.search_lines.specs.Text.{numbers-text, line-text}
 use Rattle.search_lines.proofs.Laws.{numbers-more, numbers-length, line-length}
 use Rattle.search_lines.proofs.line.Statement.{statement}

@@ -2,7 +2,7 @@
 use mathlib.Core.Path.{sym, _∙_, ap}
 use mathlib.Core.List.{[], _∷_}
 use Prim.Native.Nat.{ℕ}
-use Rattle.lines.proofs.Laws.Wrote.{wrote-none, wrote-as}
+use Rattle.columns.proofs.Laws.Wrote.{wrote-none, wrote-as}
 use Rattle.search_lines.specs.Text.{r-word, line-text, reach-text}
 use borrow.Author.Needs.{needs}
 use Rattle.search_lines.proofs.reach_line.Statement.{statement}

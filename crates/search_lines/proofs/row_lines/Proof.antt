@@ -4,8 +4,8 @@ use Prim.Native.Nat.{_-_, _≤_, _<_, min}
 use lib.ListN.{length, length-take, take}
 use native.Mathlib.Omega.{arith}
 use borrow.Author.Needs.{needs}
-use Rattle.lines.specs.Wrote.{Wrote}
-use Rattle.lines.proofs.Laws.Wrote.{wrote-none, wrote-then, wrote-as}
+use Rattle.columns.specs.Wrote.{Wrote}
+use Rattle.columns.proofs.Laws.Wrote.{wrote-none, wrote-then, wrote-as}
 use Rattle.search_lines.specs.Text.{reach-texts, gap-text}
 use Rattle.search_lines.proofs.Laws.{texts-more, texts-length, counted}
 use Rattle.search_lines.proofs.row_lines.Statement.{statement}

@@ -7,7 +7,7 @@ use lib.Seq.{length-take-le}
 use native.Mathlib.Omega.{arith}
 use Rattle.settings.proofs.Laws.Settings.{limits}
 use Rattle.columns.specs.Marks.{mark-bytes}
-use Rattle.lines.proofs.Laws.Wrote.{wrote-as}
+use Rattle.columns.proofs.Laws.Wrote.{wrote-as}
 use Rattle.show.specs.Text.{texts-of}
 use Rattle.steps.specs.Shown.{row-shown, no-marks}
 use Rattle.stages.proofs.Laws.{fit-of}

@@ -5,7 +5,7 @@ use lib.ListN.{length}
 use native.Mathlib.Omega.{arith}
 use Rattle.settings.proofs.Laws.Settings.{limits}
 use Rattle.lines.specs.Row.{row-text, row-room}
-use Rattle.lines.proofs.Laws.Wrote.{wrote-none, wrote-as}
+use Rattle.columns.proofs.Laws.Wrote.{wrote-none, wrote-as}
 use Rattle.stages.proofs.Laws.{fit-of}
 use Rattle.show.proofs.Laws.{no-lines, row-lines}
 use borrow.Author.Needs.{needs}

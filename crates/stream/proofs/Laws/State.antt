@@ -8,7 +8,7 @@ use borrow.Author.Tests.{lt-ltb, le-ltb, ltb-true, ltb-false}
 use lib.Dec.{ltb}
 use lib.ListN.{length, take, drop, length-take, length-drop, length-append, drop-of-length-le}
 use lib.Seq.{take-take, take-all, take-add, drop-at, drop-drop, length-take-le}
-use Rattle.lines.specs.Wrote.{Wrote}
+use Rattle.columns.specs.Wrote.{Wrote}
 use Rattle.stages.specs.Fit.{due-of}
 use Rattle.lines.specs.Row.{step-room}
 use Rattle.window.specs.Window.{In-buffer, bytes-in, lacking, filled-up}

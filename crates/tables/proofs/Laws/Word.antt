@@ -9,10 +9,10 @@ use lib.ListN.{length, take, drop, set, length-append}
 use lib.Seq.{take-take, take-append-add, length-take-le}
 use Rattle.lines.specs.Number.{glyph, decimal-in, decimal, hexadecimal}
 use Rattle.tables.specs.Word.{bytes, word-of, padded, spaced}
-use Rattle.lines.specs.Wrote.{Wrote}
+use Rattle.columns.specs.Wrote.{Wrote}
 use Rattle.settings.proofs.Laws.Cases.{by-order}
 use Rattle.lines.proofs.Laws.Number.{glyph-low, glyph-high, one-digit, more-digits}
-use Rattle.lines.proofs.Laws.Wrote.{wrote-none, wrote-byte, wrote-then, wrote-as}
+use Rattle.columns.proofs.Laws.Wrote.{wrote-none, wrote-more, wrote-as}
 
 -- bytes
 pub data Small : List ℕ → Type 0 where
@@ -132,8 +132,7 @@ module _ (w : ℕ) {a b : List ℕ} {at : ℕ} (wrote : Wrote a at (bytes 8 w) b
 
 -- eight stores write a word
 next : {a b t : List ℕ} {at end : ℕ} → Wrote a at t b end → (p v : ℕ) → p ≡ end → p < length a → Wrote a at (t ++ (v ∷ [])) (set b p v) (p + 1)
-next {a} {b} {t} {at} {end} w p v e i =
-    wrote-then (rw (sym e) at w) (wrote-byte b p v (omega (arith, w .as-long)))
+next w p v e i = wrote-more (rw (sym e) at w) v i refl refl
 
 module _ (a : List ℕ) (at : ℕ) (room : at + 8 ≤ length a) (v₀ v₁ v₂ v₃ v₄ v₅ v₆ v₇ : ℕ) where
   pub wrote-eight :

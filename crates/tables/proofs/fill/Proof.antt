@@ -1,7 +1,8 @@
 -- `fill` meets its contract. Assumes nothing.
 use mathlib.Core.Path.{_∙_}
+use native.Mathlib.Omega.{arith}
 use borrow.Author.Needs.{needs}
-use Rattle.tables.proofs.Laws.Table.{all-tables, first-pairs}
+use Rattle.tables.proofs.Laws.Table.{all-tables, first-pairs, holds-last}
 use Rattle.tables.proofs.fill.Statement.{statement}
 use Rattle.tables.proofs.fill.Tie as tie
 
@@ -40,7 +41,7 @@ first-triples-requires c κs =
     let at-pairs2 = at-pairs3 .before .before .before .before in
     let at-pairs = at-pairs2 .before .before .before .before in
     let start = at-pairs .before .before .before in
-    (at-lengths .lengths .ensures .as-long ∙ at-columns .columns .ensures .as-long ∙ at-pairs6 .pairs6 .ensures .as-long ∙ at-pairs5 .pairs5 .ensures .as-long ∙ at-pairs4 .pairs4 .ensures .as-long ∙ at-pairs3 .pairs3 .ensures .as-long ∙ at-pairs2 .pairs2 .ensures .as-long ∙ at-pairs .pairs .ensures .as-long ∙ start .pre, first-pairs (at-pairs .pairs .ensures) (at-pairs2 .pairs2 .ensures) (at-pairs3 .pairs3 .ensures) (at-pairs4 .pairs4 .ensures) (at-pairs5 .pairs5 .ensures) (at-pairs6 .pairs6 .ensures) (at-columns .columns .ensures) (at-lengths .lengths .ensures))
+    first-pairs (start .pre) (at-pairs .pairs .ensures) (at-pairs2 .pairs2 .ensures) (at-pairs3 .pairs3 .ensures) (at-pairs4 .pairs4 .ensures) (at-pairs5 .pairs5 .ensures) (at-pairs6 .pairs6 .ensures) (at-columns .columns .ensures) (at-lengths .lengths .ensures)
 
 next-triples-requires : tie.Need-next-triples-requires
 next-triples-requires c κs =
@@ -54,7 +55,7 @@ next-triples-requires c κs =
     let at-pairs2 = at-pairs3 .before .before .before .before in
     let at-pairs = at-pairs2 .before .before .before .before in
     let start = at-pairs .before .before .before in
-    (at-first-triples .first-triples .ensures .as-long ∙ at-lengths .lengths .ensures .as-long ∙ at-columns .columns .ensures .as-long ∙ at-pairs6 .pairs6 .ensures .as-long ∙ at-pairs5 .pairs5 .ensures .as-long ∙ at-pairs4 .pairs4 .ensures .as-long ∙ at-pairs3 .pairs3 .ensures .as-long ∙ at-pairs2 .pairs2 .ensures .as-long ∙ at-pairs .pairs .ensures .as-long ∙ start .pre, at-first-triples .first-triples .ensures .holds)
+    (at-first-triples .first-triples .ensures .as-long ∙ at-lengths .lengths .ensures .as-long ∙ at-columns .columns .ensures .as-long ∙ at-pairs6 .pairs6 .ensures .as-long ∙ at-pairs5 .pairs5 .ensures .as-long ∙ at-pairs4 .pairs4 .ensures .as-long ∙ at-pairs3 .pairs3 .ensures .as-long ∙ at-pairs2 .pairs2 .ensures .as-long ∙ at-pairs .pairs .ensures .as-long ∙ start .pre, holds-last _ 4096 (at-first-triples .first-triples .ensures) (omega arith))
 
 same-length : tie.Need-same-length
 same-length c =

@@ -4,20 +4,23 @@ use Prim.Native.Nat.{ℕ, _+_, _-_, _*_, _/_, _≤_}
 use lib.ListN.{getD}
 use native.Mathlib.Omega.{arith}
 use Rattle.lines.specs.Number.{glyph}
-use Rattle.tables.specs.Word.{pair, triple, Table-part}
-use Rattle.tables.proofs.Laws.Table.{filled-none, filled-more, filled-all, made-of-first}
+use Rattle.columns.specs.Columns.{table-from}
+use Rattle.columns.specs.Wrote.{Wrote}
+use Rattle.columns.proofs.Laws.Wrote.{wrote-more, table-none, table-more}
+use Rattle.tables.specs.Word.{pair, triple}
+use Rattle.tables.proofs.Laws.Table.{table-whole, made-of-first}
 use Rattle.tables.proofs.Laws.Pairs.{hexadecimal-pair-small}
 use Rattle.tables.proofs.first_triples.Statement.{statement}
 use Rattle.tables.proofs.first_triples.Tie as tie
 
 abbrev Inv-loop : tie.InvT-loop
-Inv-loop table₀ k₀ table k = (k ≤ 4096) × Table-part table₀ table 1424 k triple
+Inv-loop table₀ k₀ table k = (k ≤ 4096) × Wrote table₀ 1424 (table-from k 0 triple) table (1424 + k)
 
 abbrev μ-loop : tie.MeasureT-loop
 μ-loop table₀ k₀ table k = 4096 - k
 
 loop-holds : tie.Need-loop-holds Inv-loop μ-loop
-loop-holds c = (omega arith, filled-none (c .before .args .table .now) 1424 triple)
+loop-holds c = (omega arith, table-none _ (c .before .args .table .now) 1424)
 
 mul-first : tie.Need-mul-first Inv-loop μ-loop
 mul-first c = omega arith
@@ -34,7 +37,7 @@ mul-table c = omega arith
 add-table : tie.Need-add-table Inv-loop μ-loop
 add-table c = let s = c .before .before .before .before .before in
     let k = c .before .before .before .loop .k in
-    let first = made-of-first (c .before .before .before .loop .inv .1) 256 (λ (n : ℕ). pair 16 n * 1) (s .pre .1) (omega arith) (k / 16) (omega arith) in
+    let first = made-of-first (c .before .before .before .loop .inv .1) (omega arith) 256 (λ (n : ℕ). pair 16 n * 1) (s .pre .1) (omega arith) (k / 16) (omega arith) in
     let small = hexadecimal-pair-small (k / 16) (omega arith) in
     omega (arith, first, small)
 
@@ -56,17 +59,17 @@ loop-less c = omega arith
 loop-again : tie.Need-loop-again Inv-loop μ-loop
 loop-again c = let s = c .before .before .before .before .before in
     let k = c .before .before .before .loop .k in
-    let first = made-of-first (c .before .before .before .loop .inv .1) 256 (λ (n : ℕ). pair 16 n * 1) (s .pre .1) (omega arith) (k / 16) (omega arith) in
+    let first = made-of-first (c .before .before .before .loop .inv .1) (omega arith) 256 (λ (n : ℕ). pair 16 n * 1) (s .pre .1) (omega arith) (k / 16) (omega arith) in
     let small = hexadecimal-pair-small (k / 16) (omega arith) in
     let v = getD (c .before .before .before .loop .table) (k / 16) 0 + 65536 * c .glyph .result in
     let is : v ≡ triple k = unfold triple in omega (arith, first, c .glyph .ensures .0) in
-    (omega arith, filled-more 1424 k v triple (c .before .before .before .loop .inv .1) (omega arith) is)
+    (omega arith, wrote-more (c .before .before .before .loop .inv .1) v (omega arith) (table-more triple k is) (omega arith))
 
 same-length : tie.Need-same-length Inv-loop μ-loop
 same-length c = c .before .loop .inv .1 .as-long
 
 returns : tie.Need-returns Inv-loop μ-loop
-returns c = filled-all 1424 (c .before .loop .k) 4096 triple (c .before .loop .inv .1) (omega arith)
+returns c = table-whole triple 4096 (c .before .loop .inv .1) (omega arith)
 
 pub first-triples-spec : {M : Type 1} → statement M
 first-triples-spec =

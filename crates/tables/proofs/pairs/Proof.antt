@@ -4,13 +4,16 @@ use Prim.Native.Nat.{ℕ, _+_, _-_, _*_, _≤_}
 use native.Mathlib.Nat.{mul-le-mul, div-lt-iff-lt-mul, mod-lt}
 use native.Mathlib.Omega.{arith}
 use Rattle.lines.specs.Number.{glyph}
-use Rattle.tables.specs.Word.{pair, Table-part}
-use Rattle.tables.proofs.Laws.Table.{filled-none, filled-more, filled-all}
+use Rattle.columns.specs.Columns.{table-from}
+use Rattle.columns.specs.Wrote.{Wrote}
+use Rattle.columns.proofs.Laws.Wrote.{wrote-more, table-none, table-more}
+use Rattle.tables.specs.Word.{pair}
+use Rattle.tables.proofs.Laws.Table.{table-whole}
 use Rattle.tables.proofs.pairs.Statement.{statement}
 use Rattle.tables.proofs.pairs.Tie as tie
 
 abbrev Inv-loop : tie.InvT-loop
-Inv-loop base place table₀ at count k₀ table k = (k ≤ base * base) × Table-part table₀ table at k (λ (n : ℕ). pair base n * place)
+Inv-loop base place table₀ at count k₀ table k = (k ≤ base * base) × Wrote table₀ at (table-from k 0 (λ (n : ℕ). pair base n * place)) table (at + k)
 
 abbrev μ-loop : tie.MeasureT-loop
 μ-loop base place table₀ at count k₀ table k = base * base - k
@@ -19,7 +22,7 @@ mul-count : tie.Need-mul-count Inv-loop μ-loop
 mul-count c = omega (arith, mul-le-mul {n₁ = c .before .args .base} {m₁ = c .before .args .base} {n₂ = 16} {m₂ = 16} (omega arith) (omega arith))
 
 loop-holds : tie.Need-loop-holds Inv-loop μ-loop
-loop-holds c = (omega arith, filled-none (c .before .args .table .now) (c .before .args .at) (λ (n : ℕ). pair (c .before .args .base) n * c .before .args .place))
+loop-holds c = (omega arith, table-none _ (c .before .args .table .now) (c .before .args .at))
 
 div-glyph : tie.Need-div-glyph Inv-loop μ-loop
 div-glyph c = omega arith
@@ -60,13 +63,14 @@ loop-less c = omega arith
 loop-again : tie.Need-loop-again Inv-loop μ-loop
 loop-again c = let s = c .before .before .before .before .before .args in
     let e : (c .before .glyph .result + 256 * c .glyph2 .result) * s .place ≡ pair (s .base) (c .before .before .before .loop .k) * s .place = unfold pair in rw (c .before .glyph .ensures .0, c .glyph2 .ensures .0) in
-    (omega arith, filled-more (s .at) (c .before .before .before .loop .k) ((c .before .glyph .result + 256 * c .glyph2 .result) * s .place) (λ (n : ℕ). pair (c .before .before .before .before .before .args .base) n * c .before .before .before .before .before .args .place) (c .before .before .before .loop .inv .1) (omega arith) e)
+    let l = c .before .before .before .loop in
+    (omega arith, wrote-more (l .inv .1) _ (omega arith) (table-more (λ (n : ℕ). pair (s .base) n * s .place) (l .k) e) (omega arith))
 
 same-length : tie.Need-same-length Inv-loop μ-loop
 same-length c = c .before .loop .inv .1 .as-long
 
 returns : tie.Need-returns Inv-loop μ-loop
-returns c = let s = c .before .before .before .args in filled-all (s .at) (c .before .loop .k) (s .base * s .base) (λ (n : ℕ). pair (c .before .before .before .args .base) n * c .before .before .before .args .place) (c .before .loop .inv .1) (omega arith)
+returns c = let s = c .before .before .before .args in table-whole (λ (n : ℕ). pair (s .base) n * s .place) (s .base * s .base) (c .before .loop .inv .1) (omega arith)
 
 pub pairs-spec : {M : Type 1} → statement M
 pairs-spec =

@@ -10,7 +10,7 @@ use Rattle.reach.specs.Survey.{surveyed-of}
 use Rattle.reach.specs.declared.survey.Surveyed.{Surveyed}
 use Rattle.reach.specs.declared.survey.Surveyed.the-variants as surveyed
 use Rattle.lines.specs.Line.{refused-line}
-use Rattle.lines.specs.Wrote.{Wrote}
+use Rattle.columns.specs.Wrote.{Wrote}
 use Rattle.steps.specs.Shown.{number-shown, offset-shown}
 use Rattle.stages.specs.Fit.{due-of}
 use Rattle.file.specs.Stands.{Stands, steps-left}

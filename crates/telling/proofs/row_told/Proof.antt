@@ -5,7 +5,7 @@ use lib.ListN.{length, take}
 use native.Mathlib.Omega.{arith}
 use Rattle.settings.proofs.Laws.Settings.{limits}
 use Rattle.reach.specs.declared.survey.Surveyed.{Surveyed}
-use Rattle.lines.proofs.Laws.Wrote.{wrote-none}
+use Rattle.columns.proofs.Laws.Wrote.{wrote-none}
 use Rattle.stages.specs.declared.Wall.the-variants.{Over}
 use Rattle.stages.proofs.Laws.{Fit, fit-of}
 use Rattle.telling.specs.Telling.{first-marked, survey-says, row-says}

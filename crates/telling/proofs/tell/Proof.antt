@@ -8,7 +8,7 @@ use lib.Seq.{length-take-le}
 use native.Mathlib.Omega.{arith}
 use Rattle.columns.specs.Marks.{mark-bytes}
 use Rattle.lines.specs.Line.{refused-line}
-use Rattle.lines.proofs.Laws.Wrote.{wrote-none, wrote-as}
+use Rattle.columns.proofs.Laws.Wrote.{wrote-none, wrote-as}
 use Rattle.contents.specs.Contents.{marks-in}
 use Rattle.fields.specs.Field.{body}
 use Rattle.steps.specs.Shown.{number-shown, offset-shown}

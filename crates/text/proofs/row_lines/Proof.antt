@@ -2,7 +2,7 @@
 use native.Mathlib.Omega.{arith}
 use borrow.Author.Needs.{needs}
 use Rattle.lines.specs.Row.{row-text, row-room}
-use Rattle.lines.proofs.Laws.Wrote.{wrote-then}
+use Rattle.columns.proofs.Laws.Wrote.{wrote-then}
 use Rattle.tile_lines.proofs.Laws.Row.{tiles-length}
 use Rattle.text.proofs.row_lines.Statement.{statement}
 use Rattle.text.proofs.row_lines.Tie as tie

@@ -1,26 +1,19 @@
--- The codes of one tile more. Assumes nothing.
-use mathlib.Core.Path.{_≡_, subst}
+-- The codes of a row's tiles. Assumes nothing.
+use mathlib.Core.Path.{_≡_}
 use mathlib.Core.List.{List}
-use Prim.Native.Nat.{ℕ, _+_, _<_}
+use Prim.Native.Nat.{ℕ, _<_}
 use native.Mathlib.Omega.{arith}
-use lib.ListN.{length, getD, set}
+use lib.ListN.{length, getD}
+use Rattle.columns.specs.Columns.{table-from}
 use Rattle.columns.specs.Marks.{marked}
-use Rattle.tables.specs.Word.{Holds}
+use Rattle.columns.specs.Wrote.{Wrote}
 use Rattle.tile_lines.specs.Tile.{code, Coded}
-use Rattle.tables.proofs.Laws.Table.{holds-more, holds-first}
+use Rattle.tables.proofs.Laws.Table.{holds-first, holds-last}
 
--- the codes of one tile more
 module _ (cs ms ts : List ℕ) where
-  pub coded-none : Coded cs ms ts 0
-  unfolding Coded Holds
-  coded-none k i = let never : ⊥ = omega arith in absurd never
-
-  pub coded-more : (k v : ℕ) → Coded cs ms ts k → k < length cs → v ≡ code (marked ms k) (getD ts k 0) → Coded (set cs k v) ms ts (k + 1)
+  pub coded-written : {held : List ℕ} {n : ℕ} → Wrote held 0 (table-from n 0 (λ k. code (marked ms k) (getD ts k 0))) cs n → Coded cs ms ts n
   unfolding Coded
-  coded-more k v h i e =
-      let same : 0 + k ≡ k = omega arith in
-      subst (λ (n : ℕ). Holds (set cs n v) 0 (k + 1) (λ (j : ℕ). code (marked ms j) (getD ts j 0))) same
-      (holds-more cs 0 k v (λ (j : ℕ). code (marked ms j) (getD ts j 0)) h (omega arith) e)
+  coded-written {n = n} w = holds-last _ n w (omega arith)
 
   pub coded-at : (n k : ℕ) → Coded cs ms ts n → k < n → getD cs k 0 ≡ code (marked ms k) (getD ts k 0)
   unfolding Coded

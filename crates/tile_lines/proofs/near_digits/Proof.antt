@@ -4,7 +4,7 @@ use native.Mathlib.Omega.{arith}
 use Prim.Native.Nat.{_/_, _^_}
 use borrow.Author.Needs.{needs}
 use Rattle.lines.proofs.Laws.Number.{decimal-length}
-use Rattle.lines.proofs.Laws.Wrote.{wrote-then, wrote-as}
+use Rattle.columns.proofs.Laws.Wrote.{wrote-then, wrote-as}
 use Rattle.tables.proofs.Laws.Word.{wrote-bytes}
 use Rattle.tile_lines.proofs.Laws.Near.{serving, last-bytes}
 use Rattle.tile_lines.proofs.near_digits.Statement.{statement}

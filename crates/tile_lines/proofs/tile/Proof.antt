@@ -6,7 +6,7 @@ use borrow.Author.Needs.{needs}
 use Rattle.tables.specs.Word.{bytes, spaced}
 use Rattle.tile_lines.specs.Tile.{tile-after}
 use Rattle.lines.proofs.Laws.Number.{decimal-length}
-use Rattle.lines.proofs.Laws.Wrote.{wrote-then, wrote-as}
+use Rattle.columns.proofs.Laws.Wrote.{wrote-then, wrote-as}
 use Rattle.tables.proofs.Laws.Word.{wrote-bytes}
 use Rattle.words.proofs.Laws.Columns.{column-short, wrote-column}
 use Rattle.tile_lines.proofs.tile.Statement.{statement}

@@ -3,23 +3,24 @@
 use mathlib.Core.Path.{_≡_, refl, _∙_, ap}
 use mathlib.Core.Bool.{Bool}
 use mathlib.Core.List.{List}
-use Prim.Native.Nat.{ℕ, _-_, _≤_, _<_}
-use lib.ListN.{length, getD, length-set}
+use Prim.Native.Nat.{ℕ, _-_, _≤_}
+use lib.ListN.{getD}
 use native.Mathlib.Omega.{arith}
 use borrow.Author.Needs.{needs}
-use Rattle.columns.specs.Marks.{mark-bytes}
+use Rattle.columns.specs.Columns.{table-from}
+use Rattle.columns.specs.Marks.{marked, mark-bytes}
 use Rattle.lines.specs.Row.{each-below, tile-text}
 use Rattle.tile_lines.specs.Near.{Right}
-use Rattle.tile_lines.specs.Tile.{code, Coded, tile-after}
-use Rattle.lines.specs.Wrote.{Wrote}
-use Rattle.lines.proofs.Laws.Wrote.{wrote-none, wrote-then, wrote-as}
+use Rattle.tile_lines.specs.Tile.{code, tile-after}
+use Rattle.columns.specs.Wrote.{Wrote}
+use Rattle.columns.proofs.Laws.Wrote.{wrote-none, wrote-more, wrote-then, wrote-as, table-none, table-more}
 use Rattle.tile_lines.proofs.Laws.Row.{each-more, tiles-length, tile-known, tile-is}
-use Rattle.tile_lines.proofs.Laws.Code.{coded-none, coded-more}
+use Rattle.tile_lines.proofs.Laws.Code.{coded-written}
 use Rattle.tile_lines.proofs.tiles.Statement.{statement}
 use Rattle.tile_lines.proofs.tiles.Tie as tie
 
 abbrev Inv-loop : tie.InvT-loop
-Inv-loop tables width row marks times codes₀ out₀ at head near₀ end₀ c₀ codes out near end c = (c ≤ width) × Right near × Wrote out₀ at (each-below c (tile-text row marks times)) out end × Coded codes marks times c × (length codes ≡ length codes₀)
+Inv-loop tables width row marks times codes₀ out₀ at head near₀ end₀ c₀ codes out near end c = (c ≤ width) × Right near × Wrote out₀ at (each-below c (tile-text row marks times)) out end × Wrote codes₀ 0 (table-from c 0 (λ k. code (marked marks k) (getD times k 0))) codes c
 
 abbrev μ-loop : tie.MeasureT-loop
 μ-loop tables width row marks times codes₀ out₀ at head near₀ end₀ c₀ codes out near end c = width - c
@@ -33,7 +34,7 @@ none-requires c κs = search needs
 loop-holds : tie.Need-loop-holds Inv-loop μ-loop
 loop-holds c = let s = c .before .before .before .before .before .before .before in
     let a = s .args in
-    (omega arith, c .none .ensures .0, unfold each-below in wrote-none (a .out .now) (a .at), coded-none (a .codes .now) (a .marks .now) (a .times .now), refl)
+    (omega arith, c .none .ensures .0, unfold each-below in wrote-none (a .out .now) (a .at), table-none _ (a .codes .now) 0)
 
 marked-requires : tie.Need-marked-requires Inv-loop μ-loop
 marked-requires c κs = unfold mark-bytes in omega arith
@@ -51,7 +52,7 @@ mul-codes : tie.Need-mul-codes Inv-loop μ-loop
 mul-codes c = omega arith
 
 slice-write-codes : tie.Need-slice-write-codes Inv-loop μ-loop
-slice-write-codes c = omega (arith, c .before .before .before .before .loop .inv .4)
+slice-write-codes c = omega (arith, c .before .before .before .before .loop .inv .3 .as-long)
 
 tile-requires : tie.Need-tile-requires Inv-loop μ-loop
 tile-requires c κs = let s = c .before .before .before .before .before .before .before .before .before .before .before .before .before in
@@ -77,17 +78,15 @@ loop-again c = let s = c .before .before .before .before .before .before .before
     let ts = a .times .now in
     let is = ap (λ (h : List ℕ). tile-after h n f t) (c .before .before .before .before .before .before .before .before .before .before .before .of .ensures .0) ∙ tile-is (a .row) n f t ∙ tile-known (a .row) ms ts n f (c .before .before .before .before .before .before .before .marked .ensures) in
     let line = wrote-as (c .before .before .before .tile .ensures .0) is in
-    let room : n < length (c .before .before .before .before .before .before .before .before .before .loop .codes) = omega (arith, c .before .before .before .before .before .before .before .before .loop-test .taken, i .4, s .pre) in
     let coded = c .before .before .before .before .before .code .ensures ∙ ap (λ (g : Bool). code g t) (c .before .before .before .before .before .before .before .marked .ensures) in (
       omega (arith, c .before .before .before .before .before .before .before .before .loop-test .taken),
       c .before .before .before .tile .ensures .1,
       wrote-as (wrote-then (i .2) line) (each-more n (tile-text (a .row) ms ts)),
-      coded-more (c .before .before .before .before .before .before .before .before .before .loop .codes) ms ts n (c .before .before .before .before .before .code .result) (i .3) room coded,
-      length-set (c .before .before .before .before .before .before .before .before .before .loop .codes) n (c .before .before .before .before .before .code .result) ∙ i .4,
+      wrote-more (i .3) _ (omega (arith, c .before .before .before .before .before .before .before .before .loop-test .taken, s .pre)) (table-more _ n coded) refl,
     )
 
 same-length : tie.Need-same-length Inv-loop μ-loop
-same-length c = c .before .loop .inv .4
+same-length c = c .before .loop .inv .3 .as-long
 
 same-length-2 : tie.Need-same-length-2 Inv-loop μ-loop
 same-length-2 c = c .before .loop .inv .2 .as-long
@@ -98,7 +97,7 @@ returns c = let s = c .before .before .before .before .before .before .before .b
     let i = c .before .loop .inv in
     let done : c .before .loop .c ≡ a .width = omega arith in
     let whole = ap (λ (n : ℕ). each-below n (tile-text (a .row) (a .marks .now) (a .times .now))) done in
-    (wrote-as (i .2) whole, rw done at (i .3))
+    (wrote-as (i .2) whole, rw done at (coded-written _ (a .marks .now) (a .times .now) (i .3)))
 
 pub tiles-spec : {M : Type 1} → statement M
 tiles-spec =

@@ -4,7 +4,7 @@ use mathlib.Core.Bool.{true, false, true≢false}
 use mathlib.Core.List.{List}
 use Prim.Native.Nat.{ℕ}
 use lib.ListN.{length}
-use Rattle.lines.specs.Wrote.{Wrote}
+use Rattle.columns.specs.Wrote.{Wrote}
 use Rattle.show.specs.Text.{texts-of}
 use Rattle.steps.specs.Step.{step-of}
 use Rattle.wall.specs.Operation.{fits, went-to, Stepping}

@@ -5,7 +5,7 @@ use Prim.Native.Nat.{ℕ, _+_, _≤_}
 use native.Mathlib.Omega.{arith}
 use lib.ListN.{length, getD}
 use Rattle.tables.specs.Word.{bytes, word-of, spaced, Holds, Tables}
-use Rattle.lines.specs.Wrote.{Wrote}
+use Rattle.columns.specs.Wrote.{Wrote}
 use Rattle.tables.proofs.Laws.Word.{small-spaced, wrote-text}
 use Rattle.tables.proofs.Laws.Digits.{spaced-short}
 

@@ -6,11 +6,11 @@ use native.Mathlib.Omega.{arith}
 use lib.ListN.{length, set, length-set}
 use Rattle.lines.specs.Number.{hexadecimal}
 use Rattle.tables.specs.Word.{bytes, word-of}
-use Rattle.lines.specs.Wrote.{Wrote}
+use Rattle.columns.specs.Wrote.{Wrote}
 use Rattle.lines.proofs.Laws.Number.{hexadecimal-length}
 use Rattle.tables.proofs.Laws.Pairs.{sixteen}
 use Rattle.tables.proofs.Laws.Word.{small-hexadecimal, wrote-text}
-use Rattle.lines.proofs.Laws.Wrote.{wrote-byte, wrote-next, wrote-end, wrote-as}
+use Rattle.columns.proofs.Laws.Wrote.{wrote-more, wrote-then, wrote-end, wrote-as}
 
 -- eight digits
 eight : (w n : ℕ) {a b : List ℕ} {at : ℕ} → w ≡ word-of (hexadecimal 8 n) → Wrote a at (bytes 8 w) b (at + 8) → at ≤ length a →
@@ -27,5 +27,5 @@ pub wrote-sixteen : {o o₁ o₂ : List ℕ} {at w₁ w₂ : ℕ} → at + 17 �
 wrote-sixteen {o} {o₁} {o₂} {at} {w₁} {w₂} room one two n b e f =
     let high = eight w₁ (n / 4294967296) e one (omega arith) in
     let low = eight w₂ (n % 4294967296) f two (omega (arith, one .as-long)) in
-    let last = wrote-byte o₂ (at + 16) b (omega (arith, one .as-long, two .as-long)) in
-    wrote-end (wrote-next (wrote-as (wrote-next high refl low) (sixteen n)) (omega arith) last) (at + 17) (omega arith)
+    let digits = wrote-end (wrote-as (wrote-then high low) (sixteen n)) (at + 16) (omega arith) in
+    wrote-more digits b (omega arith) refl (omega arith)

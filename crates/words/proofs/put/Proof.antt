@@ -3,7 +3,7 @@ use Prim.Native.Nat.{_/_, _%_}
 use lib.ListN.{length-set}
 use native.Mathlib.Omega.{arith}
 use borrow.Author.Needs.{needs}
-use Rattle.lines.proofs.Laws.Wrote.{wrote-as}
+use Rattle.columns.proofs.Laws.Wrote.{wrote-as}
 use Rattle.tables.proofs.Laws.Word.{wrote-eight, bytes-shifted}
 use Rattle.words.proofs.put.Statement.{statement}
 use Rattle.words.proofs.put.Tie as tie

@@ -1,8 +1,8 @@
--- `progress::further` meets its contract. The loop's invariant: the places passed hold their tiles' pulses, and at most eight
--- were passed, all of a plain stretch. Assumes nothing.
+-- `progress::further` meets its contract. The loop's invariant: the row is filled so far, and at most eight tiles were passed, all of
+-- a plain stretch. Assumes nothing.
 use mathlib.Core.Path.{_≡_, sym, _∙_, ap, subst}
 use Prim.Native.Nat.{ℕ, _+_, _-_, _≤_, _<_}
-use lib.ListN.{length, set}
+use lib.ListN.{length}
 use native.Mathlib.Omega.{arith}
 use borrow.Author.Needs.{needs}
 use borrow.Author.Tests.{not-false}
@@ -11,16 +11,17 @@ use Rattle.admission.specs.Call.{Call, call}
 use Rattle.pulse.specs.Pulse.{pulse}
 use Rattle.columns.specs.Marks.{mark-bytes}
 use Rattle.columns.specs.Plain.{Plain}
-use Rattle.row.specs.Progress.{Filled-with-ends}
+use Rattle.row.specs.declared.progress.Progress.{Progress}
+use Rattle.row.specs.Progress.{So-far}
 use Rattle.admission.proofs.Laws.Accepted.{Accepted, accepted}
 use Rattle.pulse.proofs.Laws.Plain.{plain-tile, plain-pulse}
-use Rattle.row.proofs.Laws.Table.{one-more}
+use Rattle.row.proofs.Laws.Progress.{tile-more}
 use Rattle.row.proofs.progress.further.Statement.{statement}
 use Rattle.row.proofs.progress.further.Tie as tie
 
 abbrev Inv-loop : tie.InvT-loop
 Inv-loop settings step before marks drifts links times₀ first so-far₀ times so-far =
-    Filled-with-ends (pulse settings before (call marks drifts links (settings .width))) times₀ times (so-far .earliest) (so-far .latest) (so-far .next)
+    So-far settings before (call marks drifts links (settings .width)) times₀ times so-far
     × (first ≤ so-far .next)
     × (so-far .next ≤ first + 8)
 
@@ -69,29 +70,20 @@ plain-requires c κs =
 pulse-requires : tie.Need-pulse-requires Inv-loop μ-loop
 pulse-requires c κs = let s = start (c .before) in (s .pre .0 .0, s .pre .0 .1, omega (arith, sizes s .here))
 
-mul-times : tie.Need-mul-times Inv-loop μ-loop
-mul-times c = let z = sizes (start (c .before .before)) in omega (arith, z .here, z .most)
-
-slice-write-times : tie.Need-slice-write-times Inv-loop μ-loop
-slice-write-times c = let z = sizes (start (c .before .before)) in omega (arith, z .here, z .times)
-
-with-requires : tie.Need-with-requires Inv-loop μ-loop
-with-requires c κs = let z = sizes (start (c .before .before)) in omega (arith, z .here, z .most)
+put-requires : tie.Need-put-requires Inv-loop μ-loop
+put-requires c κs = let z = sizes (start (c .before .before .before)) in (omega (arith, z .here, z .times), omega (arith, z .most, z .times))
 
 same-length : tie.Need-same-length Inv-loop μ-loop
 same-length c = search needs
 
 returns : tie.Need-returns Inv-loop μ-loop
 returns c =
-    let p = c .before in
-    let s = start (p .before .before) in
-    let z = sizes s in
-    let a = s .args in
-    let w = c .with .ensures in
-    let f = pulse (a .settings) (a .before .now) (lent s) in (
-      subst (λ (n : ℕ). Filled-with-ends f (a .times .now) (set (a .times .now) (a .done .next) (p .pulse .result)) (c .with .result .earliest) (c .with .result .latest) n) (sym (w .0))
-          (one-more (s .pre .1) (omega (arith, z .here, z .times)) (p .pulse .ensures) (w .1) (w .2)),
-      omega (arith, w .0),
+    let p = c .before .before in
+    let q = p .before .before in
+    let s = start (q .before .before) in
+    let z = sizes s in (
+      tile-more (s .pre .1) (omega (arith, z .here, z .times)) (z .here) (q .pulse .ensures) (p .put .ensures .0) (p .put .ensures .1),
+      omega (arith, ap (λ (d : Progress). d .next) (p .put .ensures .1)),
     )
 
 -- eight tiles
@@ -143,40 +135,37 @@ correct-requires c κs =
     let i = in-row t in
     plain-tile (ok s) (i .plain) (column t) (i .from) (i .to) (s .args .step) (s .pre .0 .1)
 
-mul-times-2 : tie.Need-mul-times-2 Inv-loop μ-loop
-mul-times-2 c = let t = c .before .before in omega (arith, in-row t .in-row, sizes (begin t) .most)
+put-requires-2 : tie.Need-put-requires-2 Inv-loop μ-loop
+put-requires-2 c κs =
+    let t = c .before .before .before in
+    let z = sizes (begin t) in
+    let same = t .before .before .loop .inv .0 .pulses .as-long in
+    (omega (arith, in-row t .in-row, z .times, same), omega (arith, z .most, z .times, same))
 
-slice-write-times-2 : tie.Need-slice-write-times-2 Inv-loop μ-loop
-slice-write-times-2 c =
-    let t = c .before .before in
-    omega (arith, in-row t .in-row, sizes (begin t) .times, t .before .before .loop .inv .0 .same)
-
-with-requires-2 : tie.Need-with-requires-2 Inv-loop μ-loop
-with-requires-2 c κs = let t = c .before .before in omega (arith, in-row t .in-row, sizes (begin t) .most)
+one-on : (p : tie.After-put2 Inv-loop μ-loop) → p .put2 .result .next ≡ column (p .before .before .before .before) + 1
+one-on p = ap (λ (d : Progress). d .next) (p .put2 .ensures .1)
 
 loop-less : tie.Need-loop-less Inv-loop μ-loop
-loop-less c = let t = c .before .before .before in omega (arith, in-row t .to, c .with2 .ensures .0)
+loop-less c =
+    let p = c .before .before in
+    omega (arith, in-row (p .before .before .before .before) .to, one-on p)
 
 loop-again : tie.Need-loop-again Inv-loop μ-loop
 unfolding call
 loop-again c =
-    let p = c .before in
-    let t = p .before .before in
-    let l = t .before .before in
+    let p = c .before .before in
+    let q = p .before .before in
+    let t = q .before .before in
     let s = begin t in
-    let a = s .args in
-    let i = in-row t in
-    let w = c .with2 .ensures in
-    let f = pulse (a .settings) (a .before .now) (lent s) in (
-      subst (λ (n : ℕ). Filled-with-ends f (a .times .now) (set (l .loop .times) (column t) (p .correct .result)) (c .with2 .result .earliest) (c .with2 .result .latest) n) (sym (w .0))
-          (one-more (l .loop .inv .0) (omega (arith, i .in-row, sizes s .times))
-          (plain-pulse (ok s) (i .plain) (column t) (i .from) (i .to) (a .step) (s .pre .0 .1) (p .correct .ensures)) (w .1) (w .2)),
-      omega (arith, w .0, i .from),
-      omega (arith, w .0, i .to),
+    let i = in-row t in (
+      tile-more (t .before .before .loop .inv .0) (omega (arith, i .in-row, sizes s .times)) (omega (arith, i .in-row))
+          (plain-pulse (ok s) (i .plain) (column t) (i .from) (i .to) (s .args .step) (s .pre .0 .1) (q .correct .ensures)) (p .put2 .ensures .0) (p .put2 .ensures .1),
+      omega (arith, one-on p, i .from),
+      omega (arith, one-on p, i .to),
     )
 
 same-length-2 : tie.Need-same-length-2 Inv-loop μ-loop
-same-length-2 c = c .before .before .loop .inv .0 .same
+same-length-2 c = c .before .before .loop .inv .0 .pulses .as-long
 
 returns-2 : tie.Need-returns-2 Inv-loop μ-loop
 returns-2 c =
@@ -191,9 +180,7 @@ further-spec =
     μ-loop
     plain-requires
     pulse-requires
-    mul-times
-    slice-write-times
-    with-requires
+    put-requires
     same-length
     returns
     loop-holds
@@ -202,9 +189,7 @@ further-spec =
     shared-slice-read-correct
     cast-correct
     correct-requires
-    mul-times-2
-    slice-write-times-2
-    with-requires-2
+    put-requires-2
     loop-less
     loop-again
     same-length-2
