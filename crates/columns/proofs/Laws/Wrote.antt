@@ -8,7 +8,7 @@ use lib.ListN.{length, take, set, getD, length-append, length-take, length-set, 
 use lib.Seq.{take-suc, take-suc-set, take-all, length-take-le, getD-take, getD-append-add}
 use Rattle.columns.specs.Columns.{table-from}
 use Rattle.columns.specs.Wrote.{Wrote}
-use Rattle.columns.proofs.Laws.Lists.{table-length, table-at, table-grows}
+use Rattle.columns.proofs.Laws.Lists.{table-grows}
 
 pub wrote-none : (a : List ℕ) (at : ℕ) → Wrote a at [] a at
 wrote-none a at = record { as-long = refl; goes = omega arith; holds = sym (append-nil (take at a)) }
@@ -33,9 +33,6 @@ module _ {a b : List ℕ} {at end : ℕ} {t : List ℕ} (first : Wrote a at t b 
         goes = omega (arith, first .goes, second .goes, length-append t u);
         holds = second .holds ∙ ap (λ (l : List ℕ). l ++ u) (first .holds) ∙ append-assoc (take at a) t u;
       }
-
-  pub wrote-next : {c : List ℕ} {u : List ℕ} {p last : ℕ} → end ≡ p → Wrote b p u c last → Wrote a at (t ++ u) c last
-  wrote-next e second = wrote-then (rw (sym e) at second)
 
   pub wrote-end : (last : ℕ) → end ≡ last → Wrote a at t b last
   wrote-end last e = rw e at first
@@ -82,12 +79,6 @@ module _ (f : ℕ → ℕ) where
 
   pub table-more : (n : ℕ) {v : ℕ} → v ≡ f n → table-from n 0 f ++ (v ∷ []) ≡ table-from (n + 1) 0 f
   table-more n e = let z : 0 + n ≡ n = omega arith in rw (e, add-one) (sym (rw z at (table-grows f n 0)))
-
-  -- and what a row holds that begins with the table
-  pub table-holds : (n : ℕ) (more : List ℕ) {a b : List ℕ} {at end : ℕ} → Wrote a at (table-from n 0 f ++ more) b end → at ≤ length a → (k : ℕ) → k < n → getD b (at + k) 0 ≡ f k
-  table-holds n more w room k i =
-      wrote-at w room k 0 (omega (arith, length-append (table-from n 0 f) more, table-length f n 0))
-      ∙ List·getD-append (table-from n 0 f) more 0 k (omega (arith, table-length f n 0)) ∙ table-at f n 0 k i ∙ ap f (omega arith)
 
 pub copy-more : (l : List ℕ) (i : ℕ) → i < length l → take i l ++ (getD l i 0 ∷ []) ≡ take (i + 1) l
 copy-more l i j = rw add-one (sym (take-suc l i 0 j))

@@ -3,16 +3,19 @@ use mathlib.Core.Path.{_≡_, sym, _∙_, ap}
 use mathlib.Core.List.{List, [], _++_, append-nil}
 use Prim.Native.Nat.{ℕ, _+_, _*_, _≤_, _<_}
 use native.Mathlib.Omega.{arith}
-use lib.ListN.{length, getD}
+use lib.ListN.{length, getD, length-append, List·getD-append}
 use Rattle.columns.specs.Columns.{table-from}
 use Rattle.columns.specs.Wrote.{Wrote}
-use Rattle.columns.proofs.Laws.Wrote.{wrote-then, wrote-as, wrote-kept, table-holds}
+use Rattle.columns.proofs.Laws.Lists.{table-length, table-at}
+use Rattle.columns.proofs.Laws.Wrote.{wrote-then, wrote-as, wrote-at, wrote-kept}
 use Rattle.tables.specs.Word.{pair, triple, spaced, word-of, Holds, Tables}
 
 -- a part that was written, and more after it
 pub holds-part : (f : ℕ → ℕ) (n : ℕ) (more : List ℕ) {a b : List ℕ} {at end : ℕ} → Wrote a at (table-from n 0 f ++ more) b end → at ≤ length a → Holds b at n f
 unfolding Holds
-holds-part f n more w room = table-holds f n more w room
+holds-part f n more w room k i =
+    wrote-at w room k 0 (omega (arith, length-append (table-from n 0 f) more, table-length f n 0))
+    ∙ List·getD-append (table-from n 0 f) more 0 k (omega (arith, table-length f n 0)) ∙ table-at f n 0 k i ∙ ap f (omega arith)
 
 pub holds-last : (f : ℕ → ℕ) (n : ℕ) {a b : List ℕ} {at end : ℕ} → Wrote a at (table-from n 0 f) b end → at ≤ length a → Holds b at n f
 holds-last f n w room = holds-part f n [] (wrote-as w (sym (append-nil (table-from n 0 f)))) room
