@@ -44,7 +44,7 @@ extern "C" {
 
 /* The version of this header; polzaintu_version answers that of the archive. */
 #define POLZAINTU_VERSION_MAJOR 0
-#define POLZAINTU_VERSION_MINOR 3
+#define POLZAINTU_VERSION_MINOR 4
 #define POLZAINTU_VERSION_PATCH 0
 
 /* The version as one number, which grows from version to version. */
@@ -151,7 +151,7 @@ typedef struct {
  * Answers 0; 1 to 7 W, R, d, u, A, r, h by turns; 8 and 9 h and A against the others. */
 POLZAINTU_ANSWER uint32_t polzaintu_settings_refusal(const polzaintu_settings *settings);
 
-/* ---- A tile: §6.1 to §6.3, by the rule of §4.1 to §5.3 ---- */
+/* ---- A tile: §6.1 to §6.3, by the rule of §4.1 to §5.3; its letter §E3.1 to §E3.3 ---- */
 
 typedef struct {
     uint64_t own;           /* the stamp of the sender in the tile's own column */
@@ -159,10 +159,23 @@ typedef struct {
     uint64_t count;         /* how many neighbours there are: 2 or 3 */
 } polzaintu_stamps;
 
+/* Which part of the rule P comes from, as a letter in ASCII. Of the neighbours' stamps that are not
+ * silent, min is the earliest and max the latest; their middle is the largest that the smaller of
+ * min + 8hs and max - 8hs can be, s being 0, 1, 2 and so on. J is 2h + 2h * r / 1,000,000, the
+ * fraction rounded up. */
+enum {
+    POLZAINTU_KEPT = 'k',   /* P is own */
+    POLZAINTU_EARLY = 'e',  /* P is min - 3h, and own is before P */
+    POLZAINTU_MIDDLE = 'm', /* P is the neighbours' middle + h, whatever own is */
+    POLZAINTU_BACK = 'b',   /* P is own - J */
+    POLZAINTU_LATE = 'l'    /* P is max + 3h, and own is after P + J or silent */
+};
+
 typedef struct {
     int64_t p;          /* P: the tile pulses when its clock reads P + A */
     int64_t correction; /* own - P, below zero where the tile waits; 0 where own is silent */
     int64_t corrected;  /* 1; 0 where own is silent, since there is no correction then */
+    int64_t letter;     /* which rule fixed P: one of the five above */
 } polzaintu_forwarded;
 
 /* What a tile forwards, by the forwarding rule. A stamp is 0 to 2^41 - 1, or POLZAINTU_SILENT.
@@ -173,7 +186,7 @@ POLZAINTU_ANSWER uint32_t polzaintu_tile(const polzaintu_settings *settings,
                                          const polzaintu_stamps *stamps,
                                          polzaintu_forwarded *answer);
 
-/* ---- A row: §7.1 to §7.6, its marks and links by place §17.4 ----
+/* ---- A row: §7.1 to §7.6, its letters §E3.4, its marks and links by place §17.4 ----
  *
  * Columns c and c + 1 are neighbours; so are columns 0 and 2, and columns W - 3 and W - 1. A tile's
  * senders are the tiles of the row before in its own column and that column's neighbours: four for
@@ -189,7 +202,8 @@ typedef struct {
     uint64_t earliest, latest; /* over all W tiles of the row */
 } polzaintu_ends;
 
-/* Works out a row from the row before. Writes its times, and the earliest and latest of them.
+/* Works out a row from the row before. Writes its times and letters, and the earliest and latest of
+ * the times.
  *
  *   before  the W times of the row before, up to 2^40 - 1; a faulty tile's is not read
  *   marks   the fault marks of the row before
@@ -197,6 +211,8 @@ typedef struct {
  *   links   the link values: of a correct sender the delay, d - u to d; of a faulty one the tick
  *           at which its pulse arrives, up to 2^40 - 1, or POLZAINTU_SILENT
  *   times   the W times to be written
+ *   letters the W letters to be written, of each tile the one that polzaintu_tile answers; a tile
+ *           that the next row's marks say is faulty has one too
  *
  * Answers 0; 1 to 9; 21 for a length, 22 and 24 for the marks, 23 for a time before, 25 for a
  * drift, 26 for a link value. */
@@ -204,7 +220,8 @@ POLZAINTU_ANSWER uint32_t polzaintu_row(const polzaintu_settings *settings, cons
                                         size_t before_len, const uint8_t *marks, size_t marks_len,
                                         const uint32_t *drifts, size_t drifts_len,
                                         const uint64_t *links, size_t links_len, uint64_t *times,
-                                        size_t times_len, polzaintu_ends *ends);
+                                        size_t times_len, uint8_t *letters, size_t letters_len,
+                                        polzaintu_ends *ends);
 
 /* Whether a tile is marked faulty. Bits beyond column W - 1 are not read. Writes faulty.
  *
@@ -376,7 +393,7 @@ POLZAINTU_ANSWER uint32_t polzaintu_survey_row(const polzaintu_settings *setting
                                                const uint64_t *row, size_t row_len,
                                                polzaintu_survey *survey);
 
-/* ---- A wall file, step by step: §9.1 to §9.8, §17.3 ----
+/* ---- A wall file, step by step: §9.1 to §9.8, §17.3, its letters §E3.6 ----
  *
  * The settings, row 0, each row 1 to R and the end of the file are a step each. docs/FORMAT.md has
  * the format. */
@@ -414,38 +431,40 @@ POLZAINTU_ANSWER size_t polzaintu_wall_width(const polzaintu_wall *wall);
  *   part    the bytes that are due
  *   row     the W times of the last row accepted; they are read at stage 2 alone
  *   next    W times, written at stage 1 with row 0 and at stage 2 with the next row
+ *   letters W letters, written at stage 2 with those of the next row; row 0 has none
  *   offset  written where the file is turned away
  *
- * At stages 0, 4 and 5 both rows may have any length. The marks of a row come with the row after
- * it: once a step at stage 2 is taken, the (W + 7) / 8 bytes from part[3] on are the marks of
- * `row`. The last row has none.
+ * At stages 0, 4 and 5 both rows and the letters may have any length. The marks of a row come with
+ * the row after it: once a step at stage 2 is taken, the (W + 7) / 8 bytes from part[3] on are the
+ * marks of `row`, whose letters are those that the step before wrote. The last row has no marks.
  *
  * Answers 0 where the part is taken and *wall has moved on. At stage 4 nothing is taken and nothing
  * changes.
  *
  * Answers 1 to 9, 22 to 26, or 41 to 45 where the file is turned away. Then *wall is at stage 5,
- * *offset is the byte offset that wallrun prints, and next holds what it held. 23 can't come where
- * *wall and `row` are as the steps of one file left them. Of each field the header is looked at
- * first, then whether the body is there, then what it holds; the contents of tags 3 and 4 are
- * looked at together.
+ * *offset is the byte offset that wallrun prints, and next and letters hold what they held. 23
+ * can't come where *wall and `row` are as the steps of one file left them. Of each field the header
+ * is looked at first, then whether the body is there, then what it holds; the contents of tags 3
+ * and 4 are looked at together.
  *
  * At stage 5 it answers the same number again, whatever it is lent, and writes the same offset;
  * nothing else changes.
  *
  * Answers POLZAINTU_UNFIT, and nothing has changed, where part is longer than is due; where at
- * stages 1 to 3 row or next is not W long; and where *wall is none that a file begun with
+ * stages 1 to 3 row, next or letters is not W long; and where *wall is none that a file begun with
  * polzaintu_wall_new comes to: a stage over 5, a stage 5 whose number is 0 or not below 2^32 - 1,
  * and at stages 1 to 3 settings that don't pass, a row over R or an offset over 2^32 - 1. */
 POLZAINTU_ANSWER uint32_t polzaintu_wall_step(polzaintu_wall *wall, const uint8_t *part,
                                               size_t part_len, const uint64_t *row, size_t row_len,
-                                              uint64_t *next, size_t next_len, uint64_t *offset);
+                                              uint64_t *next, size_t next_len, uint8_t *letters,
+                                              size_t letters_len, uint64_t *offset);
 
 static_assert(sizeof(size_t) == 8, "a count is a 64-bit word");
 static_assert(sizeof(bool) == 1, "a bool is a byte");
 static_assert(sizeof(double) == 8, "a double is a 64-bit floating number");
 static_assert(sizeof(polzaintu_settings) == 7 * 8, "seven words");
 static_assert(sizeof(polzaintu_stamps) == 5 * 8, "five words");
-static_assert(sizeof(polzaintu_forwarded) == 3 * 8, "three words");
+static_assert(sizeof(polzaintu_forwarded) == 4 * 8, "four words");
 static_assert(sizeof(polzaintu_ends) == 2 * 8, "two words");
 static_assert(sizeof(polzaintu_halves) == 2 * 8, "two words");
 static_assert(sizeof(polzaintu_pair) == 2 * 8, "two words");

@@ -52,6 +52,7 @@ int main(void) {
     uint8_t part[POLZAINTU_DUE_MOST];
     uint64_t rows[2][POLZAINTU_WIDTH_MOST] = {{0}};
     uint64_t *times = rows[0], *next = rows[1];
+    uint8_t letters[POLZAINTU_WIDTH_MOST]; /* a seam has no use for them */
     struct widest widest = {false, 0, {0, 0}, 0.0};
     polzaintu_wall wall;
     polzaintu_wall_new(&wall);
@@ -62,8 +63,8 @@ int main(void) {
         if (ferror(stdin))
             return failed("widest: standard input");
         uint64_t offset;
-        const uint32_t number =
-            polzaintu_wall_step(&wall, part, length, times, width, next, width, &offset);
+        const uint32_t number = polzaintu_wall_step(&wall, part, length, times, width, next, width,
+                                                    letters, width, &offset);
         if (number != 0) {
             printf("refused %" PRIu32 " at %" PRIu64 "\n", number, offset);
             return finish();

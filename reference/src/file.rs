@@ -105,7 +105,7 @@ impl Values<'_> {
     }
 }
 
-/// A row that is known whole: its number, its times, and its marks, which came with the next row.
+/// A row that is known whole: its number, its times and letters, and its marks, which came with the next row.
 #[derive(Clone, Copy, Debug)]
 pub struct ShownRow<'a> {
     /// The wall.
@@ -114,6 +114,8 @@ pub struct ShownRow<'a> {
     pub number: usize,
     /// Its W times.
     pub times: &'a [u64],
+    /// Its W letters; row 0 has none.
+    pub letters: &'a [u8],
     /// Its marks, one bit a column.
     pub marks: &'a [u8],
     /// The link values of the next row; row R has no next.
@@ -144,6 +146,7 @@ pub fn walk<E>(
     let mut fields = Fields { file, at: 0 };
     let wall = take_settings(&mut fields)?;
     let mut times = take_start(&mut fields, &wall)?;
+    let mut letters = Vec::new();
     for number in 0..wall.settings().rows() {
         let row = take_row(&mut fields, &wall)?;
         let lent = Lent {
@@ -152,24 +155,26 @@ pub fn walk<E>(
             drifts: &row.drifts,
             links: &row.links,
         };
-        let mut written = vec![0; times.len()];
-        wall.row(&lent, &mut written)
+        let (mut next, mut next_letters) = (vec![0; times.len()], vec![0; times.len()]);
+        wall.row(&lent, &mut next, &mut next_letters)
             .map_err(|Refused(number)| row.tag_4.refused(number))?;
         let shown = ShownRow {
             wall: &wall,
             number,
             times: &times,
+            letters: &letters,
             marks: row.marks,
             links: &row.links,
         };
         show(shown).map_err(Stop::Shown)?;
-        times = written;
+        (times, letters) = (next, next_letters);
     }
     fields.end()?;
     let shown = ShownRow {
         wall: &wall,
         number: wall.settings().rows(),
         times: &times,
+        letters: &letters,
         marks: &vec![0; wall.shape().mark_bytes()],
         links: &[],
     };

@@ -1,4 +1,4 @@
-//! What is printed of a wall file (§10.1 to §10.4): `t` and `s` lines of each row, and a refusal's line.
+//! What is printed of a wall file (§10.1 to §10.4, §E3.5): `t` and `s` lines of each row, and a refusal's line.
 
 use std::io::{self, Write};
 
@@ -25,11 +25,11 @@ fn print_row(row: &ShownRow, out: &mut impl Write) -> io::Result<()> {
     if number == 0 {
         return Ok(());
     }
-    for (column, time) in row.times.iter().enumerate() {
+    for (column, (time, &letter)) in row.times.iter().zip(row.letters).enumerate() {
         if is_marked(row.marks, column) {
             writeln!(out, "t {number} {column} -")?;
         } else {
-            writeln!(out, "t {number} {column} {time}")?;
+            writeln!(out, "t {number} {column} {time} {}", char::from(letter))?;
         }
     }
     let pulse = |column: usize| Pulse {

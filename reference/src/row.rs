@@ -1,6 +1,7 @@
-//! One row (§7.1 to §7.6) from the row before, with refusals 21 to 26.
+//! One row (§7.1 to §7.6, §E3.4) from the row before, with refusals 21 to 26.
 
 use crate::clock::{first_tick, reading};
+use crate::rule::Answer;
 use crate::settings::Settings;
 use crate::shape::{is_marked, Shape};
 use crate::tile::{tile, Stamps};
@@ -54,25 +55,27 @@ impl Wall {
         &self.shape
     }
 
-    /// The row operation: writes the row's times, or answers the lowest number that applies over the
-    /// whole row and leaves `written` as it was.
-    pub fn row(&self, lent: &Lent, written: &mut [u64]) -> Result<Ends, Refused> {
-        self.check(lent, written.len())?;
-        let times: Vec<u64> = (0..self.shape.columns())
-            .map(|column| self.time(lent, column))
-            .collect();
-        written.copy_from_slice(&times);
+    /// The row operation: writes the row's times and letters, W of each, or answers the lowest number that
+    /// applies over the whole row and leaves both as they were.
+    pub fn row(&self, lent: &Lent, times: &mut [u64], letters: &mut [u8]) -> Result<Ends, Refused> {
+        self.check(lent, times.len(), letters.len())?;
+        for column in 0..self.shape.columns() {
+            let answer = self.answer(lent, column);
+            times[column] = self.time(&answer, lent.drifts[column]);
+            letters[column] = answer.letter.byte();
+        }
         Ok(Ends {
             earliest: *times.iter().min().expect("a row has tiles"),
             latest: *times.iter().max().expect("a row has tiles"),
         })
     }
 
-    /// The row's refusals, each judged over the whole row before the next.
-    fn check(&self, lent: &Lent, written_length: usize) -> Result<(), Refused> {
+    /// The row's refusals, each judged over the whole row before the next; `times` and `letters` are the lengths
+    /// of what is lent to write.
+    fn check(&self, lent: &Lent, times: usize, letters: usize) -> Result<(), Refused> {
         let w = self.shape.columns();
         self.settings.check()?;
-        refuse_if(!self.lengths_are_right(lent, written_length), 21)?;
+        refuse_if(!self.lengths_are_right(lent, times, letters), 21)?;
 
         let faulty = |column: usize| is_marked(lent.marks, column);
         let stray_mark = (w..8 * lent.marks.len()).any(faulty);
@@ -92,13 +95,14 @@ impl Wall {
         refuse_if(not_admitted, 26)
     }
 
-    fn lengths_are_right(&self, lent: &Lent, written_length: usize) -> bool {
+    fn lengths_are_right(&self, lent: &Lent, times: usize, letters: usize) -> bool {
         let w = self.shape.columns();
         lent.before.len() == w
             && lent.marks.len() == self.shape.mark_bytes()
             && lent.drifts.len() == w
             && lent.links.len() == self.shape.links()
-            && written_length == w
+            && times == w
+            && letters == w
     }
 
     /// How many predecessors of a tile are marked: their marks as bits of a byte, of which the ones are counted.
@@ -121,12 +125,15 @@ impl Wall {
         }
     }
 
-    /// When the tile in `column` pulses: at the first tick at which its clock reads P + A or more.
-    fn time(&self, lent: &Lent, column: usize) -> u64 {
+    /// What the tile in `column` answers, for a lent row that is accepted.
+    fn answer(&self, lent: &Lent, column: usize) -> Answer {
         let stamps = self.stamps(lent, column);
-        let answer = tile(&self.settings, &stamps).expect("an accepted row admits each tile");
-        let goal = answer.p + self.settings.a();
-        let t = first_tick(goal, lent.drifts[column].into());
+        tile(&self.settings, &stamps).expect("an accepted row admits each tile")
+    }
+
+    /// When a tile of this drift pulses: at the first tick at which its clock reads P + A or more.
+    fn time(&self, answer: &Answer, drift: u16) -> u64 {
+        let t = first_tick(answer.p + self.settings.a(), drift.into());
         u64::try_from(t).expect("a time fits 64 bits")
     }
 
@@ -218,26 +225,37 @@ mod tests {
             }
         }
 
-        /// The written row, or the number; a refusal must leave the lent row as it was.
-        fn run(&self) -> Result<Vec<u64>, u8> {
-            let mut written = vec![77; W];
-            match self.wall.row(&self.lent(), &mut written) {
+        /// The written times and letters, or the number; a refusal must leave both lent rows as they were.
+        fn both(&self) -> Result<(Vec<u64>, String), u8> {
+            let (mut times, mut letters) = (vec![77; W], vec![88; W]);
+            match self.wall.row(&self.lent(), &mut times, &mut letters) {
                 Ok(ends) => {
-                    assert_eq!(Some(&ends.earliest), written.iter().min());
-                    assert_eq!(Some(&ends.latest), written.iter().max());
-                    Ok(written)
+                    assert_eq!(Some(&ends.earliest), times.iter().min());
+                    assert_eq!(Some(&ends.latest), times.iter().max());
+                    Ok((times, String::from_utf8(letters).unwrap()))
                 }
                 Err(Refused(number)) => {
-                    assert_eq!(written, [77; W]);
+                    assert_eq!((&times[..], &letters[..]), (&[77; W][..], &[88; W][..]));
                     Err(number)
                 }
             }
+        }
+
+        /// The written times, or the number.
+        fn run(&self) -> Result<Vec<u64>, u8> {
+            self.both().map(|(times, _)| times)
+        }
+
+        /// The written letters.
+        fn letters(&self) -> String {
+            self.both().unwrap().1
         }
     }
 
     #[test]
     fn a_quiet_row() {
         assert_eq!(Case::new().run(), Ok(vec![1500; W]));
+        assert_eq!(Case::new().letters(), "k".repeat(W));
     }
 
     #[test]
@@ -270,9 +288,12 @@ mod tests {
         }
         let case = Case::new();
         for length in [0, W - 1, W + 1] {
-            let mut written = vec![5; length];
-            assert_eq!(case.wall.row(&case.lent(), &mut written), Err(Refused(21)));
-            assert_eq!(written, vec![5; length]);
+            for (w, other) in [(length, W), (W, length)] {
+                let (mut times, mut letters) = (vec![5; w], vec![6; other]);
+                let refused = case.wall.row(&case.lent(), &mut times, &mut letters);
+                assert_eq!(refused, Err(Refused(21)));
+                assert_eq!((times, letters), (vec![5; w], vec![6; other]));
+            }
         }
     }
 
@@ -403,11 +424,55 @@ mod tests {
         for tile in 4..=6 {
             case.link(tile, 5, SILENT);
         }
-        let row = case.run().unwrap();
+        let (row, letters) = case.both().unwrap();
         // Own silent: the latest neighbour's stamp 1110, 3h = 48 and the hold.
         assert_eq!(row[5], 1110 + 48 + 400);
         // A silent neighbour: own, being later than the other less 3h.
         assert_eq!((row[4], row[6]), (1510, 1500));
+        assert_eq!(letters, "kkkkklkkkkk");
+    }
+
+    /// h is 16 and J is 33. All others pulse at 1000, so D is the column's own time less 1016.
+    #[test]
+    fn letters_by_column() {
+        for (own, letter) in [
+            (951, 'e'),
+            (952, 'k'),
+            (1_015, 'k'),
+            (1_016, 'm'),
+            (1_049, 'm'),
+            (1_050, 'b'),
+            (1_081, 'b'),
+            (1_082, 'l'),
+        ] {
+            for column in 0..W {
+                let mut case = Case::new();
+                case.before[column] = own;
+                let letters: Vec<char> = case.letters().chars().collect();
+                assert_eq!(letters[column], letter, "own {own} column {column}");
+            }
+        }
+    }
+
+    #[test]
+    fn a_letter_is_what_the_tile_answers() {
+        let mut case = Case::new();
+        case.before = vec![
+            1000, 1080, 1016, 940, 1000, 1050, 1000, 1000, 1090, 1049, 1000,
+        ];
+        case.drifts[3] = 10_000;
+        case.mark(7);
+        for (tile, value) in [(6, SILENT), (7, SILENT), (8, 1_200)] {
+            case.link(tile, 7, value);
+        }
+        let lent = case.lent();
+        let tiles = (0..W).map(|column| {
+            let stamps = case.wall.stamps(&lent, column);
+            tile(case.wall.settings(), &stamps).unwrap().letter
+        });
+        let tiles: String = tiles.map(|letter| letter.to_string()).collect();
+        assert_eq!(tiles, "kbbebbelbme");
+        assert_eq!(case.letters(), tiles);
     }
 
     #[test]

@@ -1,4 +1,4 @@
-//! One tile (§6.1 to §6.3): its stamps, refusals 11 to 13, and the rule's answer for them.
+//! One tile (§6.1 to §6.3, §E3.3): its stamps, refusals 11 to 13, and the rule's answer for them.
 
 use crate::rule::{forward, Answer};
 use crate::settings::Settings;
@@ -31,6 +31,7 @@ pub fn tile(settings: &Settings, stamps: &Stamps) -> Result<Answer, Refused> {
 mod tests {
     use super::*;
     use crate::cases::build::PRINTED;
+    use crate::rule::Letter;
     use crate::settings::Numbers;
 
     fn settings() -> Settings {
@@ -45,50 +46,58 @@ mod tests {
         }
     }
 
-    fn answer(own: Tick, first: Tick, second: Tick) -> (Tick, Option<Tick>) {
-        let answer = tile(&settings(), &two(Some(own), Some(first), Some(second))).unwrap();
-        (answer.p, answer.correction)
+    /// The tile's answer is P, own - P where own is heard, and the letter.
+    fn answers(settings: &Settings, stamps: Stamps, p: Tick, letter: Letter) {
+        let due = Answer {
+            p,
+            correction: stamps.own.map(|own| own - p),
+            letter,
+        };
+        assert_eq!(tile(settings, &stamps), Ok(due), "{stamps:?}");
+    }
+
+    fn heard(own: Tick, first: Tick, second: Tick) -> Stamps {
+        two(Some(own), Some(first), Some(second))
     }
 
     #[test]
     fn the_tile_cases_with_neighbours_100_and_100() {
-        for (own, p) in [
-            (100, 100),
-            (120, 112),
-            (112, 112),
-            (136, 112),
-            (137, 113),
-            (160, 136),
-            (200, 136),
-            (64, 64),
-            (63, 64),
-            (0, 64),
+        for (own, p, letter) in [
+            (100, 100, Letter::Kept),
+            (120, 112, Letter::Middle),
+            (112, 112, Letter::Middle),
+            (136, 112, Letter::Middle),
+            (137, 113, Letter::Back),
+            (160, 136, Letter::Back),
+            (200, 136, Letter::Late),
+            (64, 64, Letter::Kept),
+            (63, 64, Letter::Early),
+            (0, 64, Letter::Early),
         ] {
-            assert_eq!(answer(own, 100, 100), (p, Some(own - p)), "own {own}");
+            answers(&settings(), heard(own, 100, 100), p, letter);
         }
-        assert_eq!(answer(200, 100, 100).1, Some(64));
-        assert_eq!(answer(63, 100, 100).1, Some(-1));
+        let correction = |own| tile(&settings(), &heard(own, 100, 100)).unwrap().correction;
+        assert_eq!((correction(200), correction(63)), (Some(64), Some(-1)));
     }
 
     #[test]
     fn the_tile_cases_with_a_gap() {
-        assert_eq!(answer(220, 100, 300).0, 208);
-        assert_eq!(answer(220, 300, 100).0, 208);
-        assert_eq!(answer(110, 0, 100).0, 86);
-        assert_eq!(answer(110, 100, 0).0, 86);
+        answers(&settings(), heard(220, 100, 300), 208, Letter::Middle);
+        answers(&settings(), heard(220, 300, 100), 208, Letter::Middle);
+        answers(&settings(), heard(110, 0, 100), 86, Letter::Back);
+        answers(&settings(), heard(110, 100, 0), 86, Letter::Back);
     }
 
     #[test]
     fn the_silent_cases() {
-        let own_silent = tile(&settings(), &two(None, Some(100), Some(130))).unwrap();
-        assert_eq!((own_silent.p, own_silent.correction), (166, None));
-        for (own, p) in [(90, 90), (50, 64)] {
+        let own_silent = two(None, Some(100), Some(130));
+        answers(&settings(), own_silent, 166, Letter::Late);
+        for (own, p, letter) in [(90, 90, Letter::Kept), (50, 64, Letter::Early)] {
             for stamps in [
                 two(Some(own), None, Some(100)),
                 two(Some(own), Some(100), None),
             ] {
-                let answer = tile(&settings(), &stamps).unwrap();
-                assert_eq!((answer.p, answer.correction), (p, Some(own - p)));
+                answers(&settings(), stamps, p, letter);
             }
         }
     }
@@ -103,9 +112,8 @@ mod tests {
         };
         let fast = Settings::new(fast).unwrap();
         assert_eq!((fast.h(), fast.j()), (12, 25));
-        let stamps = two(Some(137), Some(100), Some(100));
-        assert_eq!(tile(&fast, &stamps).unwrap().p, 112);
-        assert_eq!(tile(&settings(), &stamps).unwrap().p, 113);
+        answers(&fast, heard(137, 100, 100), 112, Letter::Middle);
+        answers(&settings(), heard(137, 100, 100), 113, Letter::Back);
     }
 
     #[test]

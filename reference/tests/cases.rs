@@ -98,6 +98,25 @@ fn each_edge_is_faulty_in_a_row_that_is_printed() {
     }
 }
 
+/// The letters of row 1, by column.
+fn letters(name: &str) -> String {
+    let text = text(&named(name).file);
+    let tiles = text.lines().filter(|line| line.starts_with("t 1 "));
+    tiles.map(|line| &line[line.len() - 1..]).collect()
+}
+
+#[test]
+fn letters_at_their_borders() {
+    for name in ["letters-ties", "letters-ties-j-33", "letters-ties-faulty"] {
+        let letters = letters(name);
+        let apart: String = letters.chars().skip(4).step_by(2).take(24).collect();
+        assert_eq!(apart, "ekkkmmmmbbbl".repeat(2));
+        // With three neighbours: D is J, and own - J is max + 3h.
+        assert_eq!((&letters[2..3], &letters[54..55]), ("m", "b"));
+    }
+    assert_eq!(letters("letters-silence"), "lkkklebklkmklkeklkekl");
+}
+
 #[test]
 fn the_longest_wall_is_printed_whole() {
     let text = text(&named("w-6-r-1024").file);

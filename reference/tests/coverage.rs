@@ -1,12 +1,12 @@
 //! That the generated walls reach what they are made to reach: every number, and every case of the
-//! rule with the borders between the cases.
+//! rule with its letter and the borders between the cases.
 
 use std::collections::{BTreeMap, BTreeSet};
 
 use wall_reference::file::{walk, FileRefused, ShownRow, Stop};
 use wall_reference::generate::{self, rng::Rng};
 use wall_reference::row::Wall;
-use wall_reference::rule;
+use wall_reference::rule::{self, Letter};
 use wall_reference::settings::Settings;
 use wall_reference::shape::is_marked;
 use wall_reference::tile::Stamps;
@@ -121,9 +121,22 @@ fn cases(settings: &Settings, stamps: &Stamps) -> Vec<&'static str> {
     cases
 }
 
+/// The letter of a tile, by the case that `cases` names first (§E3.1).
+fn letter(case: &str) -> Letter {
+    match case {
+        "below: own kept" | "neighbour silent, own kept" => Letter::Kept,
+        "below: waits" | "neighbour silent, own early" => Letter::Early,
+        "within" => Letter::Middle,
+        "above: own - J" => Letter::Back,
+        "above: max + 3h" | "own silent" => Letter::Late,
+        _ => panic!("no letter for {case}"),
+    }
+}
+
 #[test]
 fn the_seeds_reach_every_case_and_border_of_the_rule() {
     let mut reached: BTreeMap<&str, u64> = BTreeMap::new();
+    let mut lettered: BTreeMap<Letter, u64> = BTreeMap::new();
     let mut faulty = BTreeSet::new();
     for seed in 0..1_500 {
         let description = generate::sound_wall(&mut Rng::new(seed));
@@ -134,21 +147,27 @@ fn the_seeds_reach_every_case_and_border_of_the_rule() {
         for row in &description.rows {
             let links = row.flat_links();
             let lent = row.lent(&before, &links);
-            for column in 0..w {
-                for case in cases(&settings, &wall.stamps(&lent, column)) {
+            let (mut times, mut letters) = (vec![0; w], vec![0; w]);
+            wall.row(&lent, &mut times, &mut letters).unwrap();
+            for (column, &written) in letters.iter().enumerate() {
+                let cases = cases(&settings, &wall.stamps(&lent, column));
+                let letter = letter(cases[0]);
+                assert_eq!(written, letter.byte(), "seed {seed}, {cases:?}");
+                *lettered.entry(letter).or_default() += 1;
+                for case in cases {
                     *reached.entry(case).or_default() += 1;
                 }
                 if w == 6 && is_marked(&row.marks, column) {
                     faulty.insert(column);
                 }
             }
-            let mut written = vec![0; w];
-            wall.row(&lent, &mut written).unwrap();
-            before = written;
+            before = times;
         }
         assert_eq!(outcome(&description.encode().bytes), None);
     }
     assert_eq!(faulty.len(), 6, "every column of the smallest wall");
     assert_eq!(reached.len(), CASES, "{reached:#?}");
     assert!(reached.values().all(|&count| count >= 3), "{reached:#?}");
+    assert_eq!(lettered.len(), Letter::ALL.len());
+    assert!(lettered.values().all(|&n| n >= 10_000), "{lettered:?}");
 }

@@ -5,12 +5,12 @@ use wall_reference::print::wallrun;
 use wall_reference::{LATEST_START, SILENT};
 
 const PRINTED: &str = "\
-t 1 0 1500
-t 1 1 1500
-t 1 2 1500
-t 1 3 1536
-t 1 4 1500
-t 1 5 1500
+t 1 0 1500 k
+t 1 1 1500 k
+t 1 2 1500 k
+t 1 3 1536 l
+t 1 4 1500 k
+t 1 5 1500 k
 s 1 0 1 4097700000000000 0000000000000000
 s 1 0 2 4097700000000000 0000000000000000
 s 1 1 2 4097700000000000 0000000000000000
@@ -122,7 +122,10 @@ fn row_1_of_a_longer_wall_is_the_same() {
     let text = print(&wall(2));
     assert!(text.starts_with(PRINTED));
     assert_eq!(text.lines().count(), 26);
-    assert!(text[PRINTED.len()..].starts_with("t 2 0 2000\n"));
+    // Tile 3's own stamp is 1636, its neighbours' are 1600, so D is J.
+    let row_2 =
+        "t 2 0 2000 k\nt 2 1 2000 k\nt 2 2 2000 k\nt 2 3 2012 m\nt 2 4 2000 k\nt 2 5 2000 k\n";
+    assert!(text[PRINTED.len()..].starts_with(row_2), "{text}");
 }
 
 #[test]
@@ -318,7 +321,7 @@ fn a_row_is_printed_with_the_marks_of_the_next() {
         put(&mut file, BODY + ROW + link(tile, place), 1600);
     }
     let marked = PRINTED
-        .replace("t 1 3 1536", "t 1 3 -")
+        .replace("t 1 3 1536 l", "t 1 3 -")
         .replace(
             "s 1 2 3 4097b80000000000 4032000000000000",
             "s 1 2 3 open right",
@@ -335,7 +338,7 @@ fn a_row_is_printed_with_the_marks_of_the_next() {
     assert!(text.starts_with(&marked), "{text}");
     // Row 2 is the last: all are correct, and all arrivals came at 1600.
     for column in 0..6 {
-        assert!(text.contains(&format!("t 2 {column} 2000\n")));
+        assert!(text.contains(&format!("t 2 {column} 2000 k\n")));
     }
     assert!(text.ends_with("s 2 4 5 409f400000000000 0000000000000000\n"));
 }
@@ -348,6 +351,7 @@ fn a_link_stands_at_its_senders_place() {
         let mut file = wall(1);
         put(&mut file, TAG_2 + 3 + 24, 1000);
         put(&mut file, BODY + link(2, place), 90);
-        assert!(print(&file).contains(&format!("t 1 2 {time}\n")), "{place}");
+        let line = format!("t 1 2 {time} k\n");
+        assert!(print(&file).contains(&line), "{place}");
     }
 }

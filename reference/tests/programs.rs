@@ -9,6 +9,7 @@ use std::thread;
 use wall_reference::generate;
 use wall_reference::print::wallrun;
 use wall_reference::reach::wallreach;
+use wall_reference::rule::Letter;
 
 const WALLREF: &str = env!("CARGO_BIN_EXE_wallref");
 const REACHREF: &str = env!("CARGO_BIN_EXE_reachref");
@@ -206,6 +207,14 @@ fn walldiff_finds_no_difference_with_itself() {
         assert!(text.starts_with("walls "), "{text}");
         assert!(text.contains("\n  43 "), "{text}");
         assert!(text.ends_with("no difference in 200 walls, seeds from 0\n"));
+    }
+}
+
+#[test]
+fn walldiff_counts_tiles_by_letter() {
+    let text = String::from_utf8(walldiff(WALLREF, "200", "letters").stdout).unwrap();
+    for letter in Letter::ALL {
+        assert!(text.contains(&format!("\n  {letter} ")), "{text}");
     }
 }
 

@@ -9,17 +9,28 @@ use wall_reference::settings::Settings;
 use wall_reference::shape::{are_neighbours, is_marked};
 use wall_reference::{LATEST_ARRIVAL, SILENT};
 
-/// The rows 0 to R of a wall, or nothing where a row is refused.
-fn rows(wall: &Wall, description: &Description) -> Option<Vec<Vec<u64>>> {
-    let mut rows = vec![description.start.clone()];
+/// The times of rows 0 to R of a wall, and the letters of rows 1 to R.
+struct Run {
+    times: Vec<Vec<u64>>,
+    letters: Vec<Vec<u8>>,
+}
+
+/// The run of a wall, or nothing where a row is refused.
+fn run(wall: &Wall, description: &Description) -> Option<Run> {
+    let mut run = Run {
+        times: vec![description.start.clone()],
+        letters: Vec::new(),
+    };
     for row in &description.rows {
-        let before = &rows[rows.len() - 1];
-        let mut written = vec![0; before.len()];
+        let before = &run.times[run.times.len() - 1];
+        let (mut times, mut letters) = (vec![0; before.len()], vec![0; before.len()]);
         let links = row.flat_links();
-        wall.row(&row.lent(before, &links), &mut written).ok()?;
-        rows.push(written);
+        let lent = row.lent(before, &links);
+        wall.row(&lent, &mut times, &mut letters).ok()?;
+        run.times.push(times);
+        run.letters.push(letters);
     }
-    Some(rows)
+    Some(run)
 }
 
 fn wall_of(description: &Description) -> Wall {
@@ -49,14 +60,16 @@ fn a_wave_n_ticks_later_is_at_most_n_and_the_row_later() {
     for seed in 0..1_000 {
         let description = generate::sound_wall(&mut Rng::new(seed));
         let wall = wall_of(&description);
-        let first = rows(&wall, &description).unwrap();
+        let first = run(&wall, &description).unwrap();
         let n = rng.spread(0, 1 << 30);
-        let Some(second) = rows(&wall, &later(&wall, &description, n)) else {
+        let Some(second) = run(&wall, &later(&wall, &description, n)) else {
             continue; // a faulty arrival came over its limit
         };
         tried += 1;
         let exact = n.is_multiple_of(1_000_000) || description.numbers.drift_limit == 0;
-        for (row, (a, b)) in first.iter().zip(&second).enumerate() {
+        // Then all stamps of a tile move alike, and its letter stays.
+        assert!(!exact || first.letters == second.letters, "seed {seed}");
+        for (row, (a, b)) in first.times.iter().zip(&second.times).enumerate() {
             for (a, b) in a.iter().zip(b) {
                 let most = if exact { n } else { n + row as u64 };
                 assert!(*b >= *a && b - a <= most, "seed {seed} row {row}");
@@ -130,7 +143,7 @@ fn check_reach(
     let (f, column) = (rng.index(description.rows.len()), rng.index(w));
     let mut broken = description.clone();
     break_tile(rng, wall, &mut broken, f, column, first[f][column]);
-    let second = rows(wall, &broken).unwrap();
+    let second = run(wall, &broken).unwrap().times;
     let b = reach::largest_difference(wall.shape(), &first[f]);
     let distances = hops(w, column);
     let mut moved = 0;
@@ -167,7 +180,7 @@ fn one_faulty_tile_reaches_no_farther_than_demand_3_says() {
             continue;
         }
         let wall = wall_of(&description);
-        let first = rows(&wall, &description).unwrap();
+        let first = run(&wall, &description).unwrap().times;
         let largest = largest(&description);
         // Once for the largest walls, which take long; a few tiles of the others.
         let tiles = if first.len() > 100 { 1 } else { 5 };

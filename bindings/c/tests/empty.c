@@ -5,7 +5,8 @@ static void rows(void) {
     polzaintu_ends ends = {77, 78};
     uint64_t gap = 77;
     polzaintu_survey survey = {0, 77, 78};
-    CHECK(polzaintu_row(&PRINTED, NULL, 0, NULL, 0, NULL, 0, NULL, 0, NULL, 0, &ends) == 21);
+    CHECK(polzaintu_row(&PRINTED, NULL, 0, NULL, 0, NULL, 0, NULL, 0, NULL, 0, NULL, 0, &ends) ==
+          21);
     CHECK(ends.earliest == 77 && ends.latest == 78);
     CHECK(polzaintu_widest_gap(&PRINTED, NULL, 0, &gap) == 21);
     CHECK(gap == 77);
@@ -24,26 +25,35 @@ static void places(void) {
     CHECK(pair.left == 77 && pair.right == 78 && side == 9);
 }
 
-/* At each stage: the rows where they may have any length, and a part of a file that has ended. */
+/* Lends a step no row and no letters. */
+static uint32_t bare(polzaintu_wall *wall, const uint8_t *part, size_t part_len, uint64_t *offset) {
+    return polzaintu_wall_step(wall, part, part_len, NULL, 0, NULL, 0, NULL, 0, offset);
+}
+
+/* At each stage: rows and letters where they may have any length, and a part of a file that has
+ * ended. */
 static void steps(void) {
     const uint8_t settings[27] = {1,  0, 24, 0, 6,   0, 1, 0, 0, 0, 100, 0, 0, 0,
                                   10, 0, 0,  1, 144, 0, 0, 0, 0, 0, 0,   0, 12};
     const uint8_t start[51] = {2, 0, 48};
     uint64_t row[6], next[6], offset = 77;
+    uint8_t letters[6] = {0};
     polzaintu_wall wall;
     polzaintu_wall_new(&wall);
-    CHECK(polzaintu_wall_step(&wall, settings, 27, NULL, 0, NULL, 0, &offset) == 0);
-    CHECK(polzaintu_wall_step(&wall, NULL, 0, NULL, 0, NULL, 0, &offset) == POLZAINTU_UNFIT);
-    CHECK(polzaintu_wall_step(&wall, start, 51, row, 6, next, 6, &offset) == 0);
+    CHECK(bare(&wall, settings, 27, &offset) == 0);
+    CHECK(bare(&wall, NULL, 0, &offset) == POLZAINTU_UNFIT);
+    CHECK(polzaintu_wall_step(&wall, start, 51, row, 6, next, 6, NULL, 0, &offset) ==
+          POLZAINTU_UNFIT);
+    CHECK(polzaintu_wall_step(&wall, start, 51, row, 6, next, 6, letters, 6, &offset) == 0);
     CHECK(offset == 77);
-    CHECK(polzaintu_wall_step(&wall, NULL, 0, next, 6, row, 6, &offset) == 43);
+    CHECK(polzaintu_wall_step(&wall, NULL, 0, next, 6, row, 6, letters, 6, &offset) == 43);
     CHECK(offset == 78);
-    CHECK(polzaintu_wall_step(&wall, NULL, 0, NULL, 0, NULL, 0, &offset) == 43);
+    CHECK(bare(&wall, NULL, 0, &offset) == 43);
     polzaintu_wall_new(&wall);
-    CHECK(polzaintu_wall_step(&wall, NULL, 0, NULL, 0, NULL, 0, &offset) == 43);
+    CHECK(bare(&wall, NULL, 0, &offset) == 43);
     CHECK(offset == 0);
     wall.stage = POLZAINTU_ENDED;
-    CHECK(polzaintu_wall_step(&wall, NULL, 0, NULL, 0, NULL, 0, &offset) == 0);
+    CHECK(bare(&wall, NULL, 0, &offset) == 0);
 }
 
 void empty_tests(void) {

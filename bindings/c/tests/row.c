@@ -1,4 +1,4 @@
-/* A row: times worked out by hand, numbers 21 to 26 and the order between them. */
+/* A row: times and letters worked out by hand, numbers 21 to 26 and the order between them. */
 #include "tests.h"
 
 #include <string.h>
@@ -13,15 +13,16 @@ struct row_call {
     polzaintu_settings settings;
     uint64_t before[POLZAINTU_WIDTH_MOST], links[LINKS_MOST], times[POLZAINTU_WIDTH_MOST];
     polzaintu_ends ends;
-    size_t before_len, marks_len, drifts_len, links_len, times_len;
+    size_t before_len, marks_len, drifts_len, links_len, times_len, letters_len;
     uint32_t drifts[POLZAINTU_WIDTH_MOST];
-    uint8_t marks[POLZAINTU_WIDTH_MOST / 8];
+    uint8_t marks[POLZAINTU_WIDTH_MOST / 8], letters[POLZAINTU_WIDTH_MOST];
 };
 
 static uint32_t run(struct row_call *call) {
     return polzaintu_row(&call->settings, call->before, call->before_len, call->marks,
                          call->marks_len, call->drifts, call->drifts_len, call->links,
-                         call->links_len, call->times, call->times_len, &call->ends);
+                         call->links_len, call->times, call->times_len, call->letters,
+                         call->letters_len, &call->ends);
 }
 
 /* No faults: all times 1000, drifts 0, delays 100. Past each length, and where the call is to
@@ -31,7 +32,7 @@ static struct row_call quiet(size_t width) {
     fill(&call, sizeof call);
     call.settings = PRINTED;
     call.settings.width = width;
-    call.before_len = call.drifts_len = call.times_len = width;
+    call.before_len = call.drifts_len = call.times_len = call.letters_len = width;
     call.marks_len = (width + 7) / 8;
     call.links_len = 3 * width + 2;
     for (size_t c = 0; c < width; c++) {
@@ -58,11 +59,13 @@ static void fault(struct row_call *call, size_t column, uint64_t arrival) {
             call->links[link_place(width, tile, column)] = arrival;
 }
 
-/* The call writes these times, their ends, and nothing else. */
-static void planned(struct row_call call, const uint64_t *times, polzaintu_ends ends) {
+/* The call writes these times, their letters and ends, and nothing else. */
+static void planned(struct row_call call, const uint64_t *times, const char *letters,
+                    polzaintu_ends ends) {
     struct row_call expected;
     memcpy(&expected, &call, sizeof call);
     memcpy(expected.times, times, call.times_len * sizeof *times);
+    memcpy(expected.letters, letters, call.letters_len);
     expected.ends = ends;
     CHECK(run(&call) == 0);
     CHECK(memcmp(&call, &expected, sizeof call) == 0);
@@ -83,7 +86,8 @@ static void accepted(struct row_call call) {
 static void printed_wall(void) {
     struct row_call call = quiet(6);
     call.before[3] = 1080;
-    planned(call, (uint64_t[]){1500, 1500, 1500, 1536, 1500, 1500}, (polzaintu_ends){1500, 1536});
+    planned(call, (uint64_t[]){1500, 1500, 1500, 1536, 1500, 1500}, "kkklkk",
+            (polzaintu_ends){1500, 1536});
 }
 
 /* A clock of drift 10,000 reads 1111 at 1100, and first reads 1511 at 1497. */
@@ -92,7 +96,8 @@ static void drifts_round(void) {
     call.settings.drift = 10000;
     call.settings.unit = 16;
     call.drifts[1] = call.drifts[5] = 10000;
-    planned(call, (uint64_t[]){1500, 1497, 1500, 1500, 1500, 1497}, (polzaintu_ends){1497, 1500});
+    planned(call, (uint64_t[]){1500, 1497, 1500, 1500, 1500, 1497}, "kkkkkk",
+            (polzaintu_ends){1497, 1500});
 }
 
 /* Column 3 is heard by tiles 2 to 5. */
@@ -102,18 +107,59 @@ static void faults(void) {
     struct row_call call = quiet(6);
     fault(&call, 3, SILENT);
     call.before[3] = UINT64_MAX; /* a faulty tile's time is not read */
-    planned(call, silent, (polzaintu_ends){1500, 1536});
+    planned(call, silent, "kkklkk", (polzaintu_ends){1500, 1536});
     fault(&call, 3, LATEST);
-    planned(call, silent, (polzaintu_ends){1500, 1536});
+    planned(call, silent, "kkklkk", (polzaintu_ends){1500, 1536});
     fault(&call, 3, 0);
-    planned(call, early, (polzaintu_ends){1464, 1500});
+    planned(call, early, "kkbebb", (polzaintu_ends){1464, 1500});
 }
 
 static void widest_wall(void) {
     uint64_t times[256];
-    for (size_t c = 0; c < 256; c++)
+    char letters[256];
+    for (size_t c = 0; c < 256; c++) {
         times[c] = 1500;
-    planned(quiet(256), times, (polzaintu_ends){1500, 1500});
+        letters[c] = 'k';
+    }
+    planned(quiet(256), times, letters, (polzaintu_ends){1500, 1500});
+}
+
+/* One column at each border between two letters, all others at 1000: h is 12 and J is 24. */
+static void letters_by_column(size_t width) {
+    static const struct {
+        uint64_t own;
+        char letter;
+    } BORDERS[] = {
+        {963, 'e'},  {964, 'k'},  {1011, 'k'}, {1012, 'm'},
+        {1036, 'm'}, {1037, 'b'}, {1060, 'b'}, {1061, 'l'},
+    };
+    for (size_t i = 0; i < sizeof BORDERS / sizeof *BORDERS; i++)
+        for (size_t column = 0; column < width; column++) {
+            struct row_call call = quiet(width);
+            call.before[column] = BORDERS[i].own;
+            CHECK(run(&call) == 0);
+            CHECK(call.letters[column] == BORDERS[i].letter);
+        }
+}
+
+/* Each letter is the one that the tile answers for the stamps of its column. */
+static void letters_of_tiles(void) {
+    const uint64_t own[6] = {1180, 1116, 1040, 1100, 1150, 1100};
+    struct row_call call = quiet(6);
+    for (size_t c = 0; c < 6; c++)
+        call.before[c] = own[c] - 100;
+    CHECK(run(&call) == 0);
+    for (size_t tile = 0; tile < 6; tile++) {
+        polzaintu_stamps stamps = {own[tile], {0, 0, 0}, 0};
+        for (size_t c = 0; c < 6; c++)
+            if (neighbours(6, tile, c))
+                stamps.neighbours[stamps.count++] = own[c];
+        polzaintu_forwarded answer;
+        CHECK(polzaintu_tile(&PRINTED, &stamps, &answer) == 0);
+        CHECK(call.letters[tile] == answer.letter);
+        CHECK(call.times[tile] == (uint64_t)answer.p + 400);
+    }
+    CHECK(memcmp(call.letters, "lmebbk", 6) == 0);
 }
 
 static void settings_numbers(void) {
@@ -143,6 +189,7 @@ static void wrong_lengths(size_t width) {
     wrong_length(&call.drifts_len, &call);
     wrong_length(&call.links_len, &call);
     wrong_length(&call.times_len, &call);
+    wrong_length(&call.letters_len, &call);
 }
 
 static void stray_marks(size_t width) {
@@ -253,6 +300,9 @@ void row_tests(void) {
     drifts_round();
     faults();
     widest_wall();
+    letters_by_column(9);
+    letters_by_column(24);
+    letters_of_tiles();
     settings_numbers();
     wrong_lengths(6);
     wrong_lengths(9);

@@ -1,4 +1,4 @@
-/* A tile: the cases of the forwarding rule, and numbers 11 to 13. */
+/* A tile: the cases of the forwarding rule, each with its letter, and numbers 11 to 13. */
 #include "tests.h"
 
 #include <string.h>
@@ -9,31 +9,54 @@ static const uint64_t LATEST = (UINT64_C(1) << 41) - 1;
 
 struct tile_case {
     polzaintu_stamps stamps;
-    int64_t p;
+    int64_t p, letter;
 };
 
 /* h 12, r 0, so J is 24. The third place holds what would be refused if it were read. */
 static const struct tile_case CASES[] = {
-    {{100, {100, 100, SILENT - 1}, 2}, 100},
-    {{120, {100, 100, SILENT - 1}, 2}, 112},
-    {{112, {100, 100, SILENT - 1}, 2}, 112},
-    {{136, {100, 100, SILENT - 1}, 2}, 112},
-    {{137, {100, 100, SILENT - 1}, 2}, 113},
-    {{160, {100, 100, SILENT - 1}, 2}, 136},
-    {{200, {100, 100, SILENT - 1}, 2}, 136},
-    {{64, {100, 100, SILENT - 1}, 2}, 64},
-    {{63, {100, 100, SILENT - 1}, 2}, 64},
-    {{0, {100, 100, SILENT - 1}, 2}, 64},
-    {{220, {100, 300, SILENT - 1}, 2}, 208},
-    {{110, {0, 100, SILENT - 1}, 2}, 86},
-    {{SILENT, {100, 130, SILENT - 1}, 2}, 166},
-    {{90, {SILENT, 100, SILENT - 1}, 2}, 90},
-    {{50, {100, SILENT, SILENT - 1}, 2}, 64},
+    {{100, {100, 100, SILENT - 1}, 2}, 100, 'k'},
+    {{120, {100, 100, SILENT - 1}, 2}, 112, 'm'},
+    {{200, {100, 100, SILENT - 1}, 2}, 136, 'l'},
+    {{0, {100, 100, SILENT - 1}, 2}, 64, 'e'},
+    {{220, {100, 300, SILENT - 1}, 2}, 208, 'm'},
+    {{110, {0, 100, SILENT - 1}, 2}, 86, 'b'},
+    /* Own is min - 3h, or a tick beside it. */
+    {{63, {100, 100, SILENT - 1}, 2}, 64, 'e'},
+    {{64, {100, 100, SILENT - 1}, 2}, 64, 'k'},
+    {{65, {100, 100, SILENT - 1}, 2}, 65, 'k'},
+    /* D is 0, where P is own, or a tick beside it. */
+    {{111, {100, 100, SILENT - 1}, 2}, 111, 'k'},
+    {{112, {100, 100, SILENT - 1}, 2}, 112, 'm'},
+    {{113, {100, 100, SILENT - 1}, 2}, 112, 'm'},
+    /* D is J. */
+    {{135, {100, 100, SILENT - 1}, 2}, 112, 'm'},
+    {{136, {100, 100, SILENT - 1}, 2}, 112, 'm'},
+    {{137, {100, 100, SILENT - 1}, 2}, 113, 'b'},
+    /* Own - J is max + 3h. */
+    {{159, {100, 100, SILENT - 1}, 2}, 135, 'b'},
+    {{160, {100, 100, SILENT - 1}, 2}, 136, 'b'},
+    {{161, {100, 100, SILENT - 1}, 2}, 136, 'l'},
+    /* Own is silent, or a neighbour is: then own is kept however late it comes. */
+    {{SILENT, {100, 130, SILENT - 1}, 2}, 166, 'l'},
+    {{90, {SILENT, 100, SILENT - 1}, 2}, 90, 'k'},
+    {{50, {100, SILENT, SILENT - 1}, 2}, 64, 'e'},
+    {{63, {SILENT, 100, SILENT - 1}, 2}, 64, 'e'},
+    {{64, {SILENT, 100, SILENT - 1}, 2}, 64, 'k'},
+    {{112, {100, SILENT, SILENT - 1}, 2}, 112, 'k'},
+    {{137, {100, SILENT, SILENT - 1}, 2}, 137, 'k'},
+    {{1000, {100, SILENT, SILENT - 1}, 2}, 1000, 'k'},
     /* Three neighbours: the earliest and the latest decide, whichever places they have. */
-    {{220, {200, 300, 100}, 3}, 208},
-    {{220, {100, 200, 300}, 3}, 208},
-    {{SILENT, {130, 100, 110}, 3}, 166},
-    {{50, {100, SILENT, 120}, 3}, 64},
+    {{220, {200, 300, 100}, 3}, 208, 'm'},
+    {{220, {100, 200, 300}, 3}, 208, 'm'},
+    {{207, {300, 100, 200}, 3}, 207, 'k'},
+    {{232, {300, 100, 200}, 3}, 208, 'm'},
+    {{233, {300, 100, 200}, 3}, 209, 'b'},
+    {{360, {300, 100, 200}, 3}, 336, 'b'},
+    {{361, {300, 100, 200}, 3}, 336, 'l'},
+    {{SILENT, {130, 100, 110}, 3}, 166, 'l'},
+    {{50, {100, SILENT, 120}, 3}, 64, 'e'},
+    {{64, {120, 100, SILENT}, 3}, 64, 'k'},
+    {{1000, {SILENT, 100, 120}, 3}, 1000, 'k'},
 };
 
 static void cases(void) {
@@ -46,16 +69,26 @@ static void cases(void) {
         CHECK(answer.p == c->p);
         CHECK(answer.corrected == heard);
         CHECK(answer.correction == (heard ? (int64_t)c->stamps.own - c->p : 0));
+        CHECK(answer.letter == c->letter);
     }
 }
 
 /* Where r is 10,000, J is 25. */
 static void step_rounds_up(void) {
     const polzaintu_settings drifting = {6, 1, 100, 8, 192, 10000, 12};
-    const polzaintu_stamps stamps = {137, {100, 100, 0}, 2};
-    polzaintu_forwarded answer;
-    CHECK(polzaintu_tile(&drifting, &stamps, &answer) == 0);
-    CHECK(answer.p == 112 && answer.correction == 25 && answer.corrected == 1);
+    const struct tile_case ties[] = {
+        {{137, {100, 100, 0}, 2}, 112, POLZAINTU_MIDDLE},
+        {{138, {100, 100, 0}, 2}, 113, POLZAINTU_BACK},
+        {{161, {100, 100, 0}, 2}, 136, POLZAINTU_BACK},
+        {{162, {100, 100, 0}, 2}, 136, POLZAINTU_LATE},
+    };
+    for (size_t i = 0; i < sizeof ties / sizeof *ties; i++) {
+        polzaintu_forwarded answer;
+        CHECK(polzaintu_tile(&drifting, &ties[i].stamps, &answer) == 0);
+        CHECK(answer.p == ties[i].p && answer.letter == ties[i].letter);
+        CHECK(answer.correction == (int64_t)ties[i].stamps.own - ties[i].p);
+        CHECK(answer.corrected == 1);
+    }
 }
 
 /* The latest stamps that are accepted. */
@@ -64,6 +97,7 @@ static void latest_stamps(void) {
     polzaintu_forwarded answer;
     CHECK(polzaintu_tile(&PRINTED, &stamps, &answer) == 0);
     CHECK(answer.p == (int64_t)LATEST + 36 && answer.corrected == 0);
+    CHECK(answer.letter == POLZAINTU_LATE);
 }
 
 /* A tile is turned away with the number, and all that was lent holds what it held. */

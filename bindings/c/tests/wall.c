@@ -20,6 +20,14 @@ static void row_is(const uint64_t row[6], const uint64_t expected[6]) {
     CHECK(memcmp(row, expected, 6 * sizeof *row) == 0);
 }
 
+/* The letters that a step wrote; NULL where none has written any. What is past them is not written. */
+static void letters_are(const struct walk *walk, const char *letters) {
+    struct walk expected = begin();
+    if (letters)
+        memcpy(expected.letters, letters, 6);
+    CHECK(memcmp(walk->letters, expected.letters, sizeof walk->letters) == 0);
+}
+
 static void accepted_wall(void) {
     struct wall_file file = small_wall();
     struct walk walk = begin();
@@ -28,17 +36,23 @@ static void accepted_wall(void) {
     CHECK(polzaintu_wall_width(&walk.wall) == 0);
     go(&walk, &file, 1);
     stands(&walk, POLZAINTU_START_DUE, 0, TAG_2, 3 + 48);
+    letters_are(&walk, NULL);
     go(&walk, &file, 1);
     stands(&walk, POLZAINTU_ROW_DUE, 0, TAG_3, 4 + 3 + 172);
     row_is(walk.next, (uint64_t[]){1000, 1000, 1000, 1080, 1000, 1000});
+    letters_are(&walk, NULL); /* row 0 has none */
     go(&walk, &file, 1);
     stands(&walk, POLZAINTU_ROW_DUE, 1, LAST_TAG_3, 4 + 3 + 172);
     row_is(walk.next, (uint64_t[]){1500, 1500, 1500, 1536, 1500, 1500});
+    letters_are(&walk, "kkklkk");
     go(&walk, &file, 1);
     stands(&walk, POLZAINTU_END_DUE, 2, END, 1);
     /* Tile 3's own stamp is 1636, its neighbours' are 1600: D is 24, P is 1612. */
     row_is(walk.next, (uint64_t[]){2000, 2000, 2000, 2012, 2000, 2000});
+    letters_are(&walk, "kkkmkk");
+    memcpy(walk.letters, "??????", 6);
     go(&walk, &file, 1);
+    letters_are(&walk, "??????"); /* the end writes none */
     CHECK(walk.wall.stage == POLZAINTU_ENDED);
     CHECK(polzaintu_wall_due(&walk.wall) == 0);
     CHECK(polzaintu_wall_width(&walk.wall) == 0);
@@ -83,8 +97,11 @@ static void faulty_tile(void) {
     for (size_t tile = 2; tile < 6; tile++)
         put(&file, link_at(LAST_TAG_4, tile, 3), 8, POLZAINTU_SILENT);
     struct walk walk = begin();
-    go(&walk, &file, 4);
+    go(&walk, &file, 3);
+    letters_are(&walk, "kkklkk"); /* the faulty tile's too */
+    go(&walk, &file, 1);
     row_is(walk.next, (uint64_t[]){2000, 2000, 2000, 2036, 2000, 2000});
+    letters_are(&walk, "kkklkk");
 }
 
 /* The search range of the small wall, from rows 0 and 1; row 0 has the larger reach. */
@@ -102,20 +119,28 @@ static void surveyed_wall(void) {
     CHECK(survey.gap == 36 && survey.largest == 2 * 80 + 8 * 12 + 1);
 }
 
+/* The lengths of the rows and letters that a step is lent. */
+struct lengths {
+    size_t row, next, letters;
+};
+
+static const struct lengths SIX = {6, 6, 6};
+
 /* A step that is lent so much of the file does not fit, and changes nothing. */
-static void unfit_part(struct walk walk, size_t part_len, size_t row_len, size_t next_len) {
+static void unfit_part(struct walk walk, size_t part_len, struct lengths lent) {
     struct wall_file file = small_wall();
-    const struct wall_file lent = file;
+    const struct wall_file file_before = file;
     const struct walk before = walk;
-    CHECK(polzaintu_wall_step(&walk.wall, file.bytes, part_len, walk.row, row_len, walk.next,
-                              next_len, &walk.offset) == POLZAINTU_UNFIT);
+    CHECK(polzaintu_wall_step(&walk.wall, file.bytes, part_len, walk.row, lent.row, walk.next,
+                              lent.next, walk.letters, lent.letters,
+                              &walk.offset) == POLZAINTU_UNFIT);
     CHECK(memcmp(&walk, &before, sizeof walk) == 0);
-    CHECK(memcmp(file.bytes, lent.bytes, sizeof file.bytes) == 0);
+    CHECK(memcmp(file.bytes, file_before.bytes, sizeof file.bytes) == 0);
 }
 
-static void unfit(struct walk walk, size_t row_len, size_t next_len) {
-    unfit_part(walk, polzaintu_wall_due(&walk.wall), row_len, next_len);
-    unfit_part(walk, 0, row_len, next_len);
+static void unfit(struct walk walk, struct lengths lent) {
+    unfit_part(walk, polzaintu_wall_due(&walk.wall), lent);
+    unfit_part(walk, 0, lent);
 }
 
 /* A part longer than is due, at every stage but the last. */
@@ -124,21 +149,23 @@ static void longer_parts(void) {
     for (size_t steps = 0; steps <= 5; steps++) {
         struct walk walk = begin();
         go(&walk, &file, steps);
-        unfit_part(walk, polzaintu_wall_due(&walk.wall) + 1, 6, 6);
-        unfit_part(walk, file.length, 6, 6);
+        unfit_part(walk, polzaintu_wall_due(&walk.wall) + 1, SIX);
+        unfit_part(walk, file.length, SIX);
     }
 }
 
+/* Rows or letters of another length, at stages 1 to 3. */
 static void unfit_rows(void) {
+    static const struct lengths OTHERS[] = {
+        {5, 6, 6}, {6, 5, 6}, {0, 6, 6}, {6, 0, 6}, {7, 7, 6},
+        {6, 6, 5}, {6, 6, 7}, {6, 6, 0}, {7, 7, 7}, {5, 5, 5},
+    };
     struct wall_file file = small_wall();
     for (size_t steps = 1; steps <= 4; steps++) {
         struct walk walk = begin();
         go(&walk, &file, steps);
-        unfit(walk, 5, 6);
-        unfit(walk, 6, 5);
-        unfit(walk, 0, 6);
-        unfit(walk, 6, 0);
-        unfit(walk, 7, 7);
+        for (size_t i = 0; i < sizeof OTHERS / sizeof *OTHERS; i++)
+            unfit(walk, OTHERS[i]);
     }
 }
 
@@ -149,13 +176,13 @@ static void unfit_walls(void) {
         go(&walk, &file, steps);
         changed = walk;
         changed.wall.settings.unit = 0;
-        unfit(changed, 6, 6);
+        unfit(changed, SIX);
         changed = walk;
         changed.wall.row = 3;
-        unfit(changed, 6, 6);
+        unfit(changed, SIX);
         changed = walk;
         changed.wall.offset = UINT64_MAX;
-        unfit(changed, 6, 6);
+        unfit(changed, SIX);
     }
 }
 
@@ -163,29 +190,43 @@ static void unfit_walls(void) {
 static void unfit_stages(void) {
     struct walk walk = begin();
     walk.wall.stage = 6;
-    unfit(walk, 6, 6);
+    unfit(walk, SIX);
     walk.wall.stage = UINT64_MAX;
-    unfit(walk, 6, 6);
+    unfit(walk, SIX);
     walk.wall.stage = POLZAINTU_REFUSED;
-    unfit(walk, 6, 6);
+    unfit(walk, SIX);
     walk.wall.row = POLZAINTU_UNFIT;
-    unfit(walk, 6, 6);
+    unfit(walk, SIX);
     walk.wall.row = UINT64_C(1) << 32;
-    unfit(walk, 6, 6);
+    unfit(walk, SIX);
 }
 
-/* A step of a file that has ended changes nothing, whatever rows are lent. */
+static const struct lengths ANY[] = {{6, 6, 6}, {0, 0, 0}, {6, 6, 0}, {5, 0, 8}};
+
+/* A step of a file that has ended changes nothing, whatever rows and letters are lent. */
 static void ended(void) {
     struct wall_file file = small_wall();
     struct walk walk = begin();
     go(&walk, &file, 5);
     const struct walk before = walk;
-    CHECK(polzaintu_wall_step(&walk.wall, file.bytes, 0, walk.row, 0, walk.next, 0, &walk.offset) ==
-          0);
-    CHECK(memcmp(&walk, &before, sizeof walk) == 0);
-    CHECK(polzaintu_wall_step(&walk.wall, file.bytes, 0, walk.row, 6, walk.next, 6, &walk.offset) ==
-          0);
-    CHECK(memcmp(&walk, &before, sizeof walk) == 0);
+    for (size_t i = 0; i < sizeof ANY / sizeof *ANY; i++) {
+        CHECK(polzaintu_wall_step(&walk.wall, file.bytes, 0, walk.row, ANY[i].row, walk.next,
+                                  ANY[i].next, walk.letters, ANY[i].letters, &walk.offset) == 0);
+        CHECK(memcmp(&walk, &before, sizeof walk) == 0);
+    }
+}
+
+/* The settings are taken whatever rows and letters are lent, and write none. */
+static void settings_step(void) {
+    struct wall_file file = small_wall();
+    for (size_t i = 0; i < sizeof ANY / sizeof *ANY; i++) {
+        struct walk walk = begin(), expected = walk;
+        CHECK(polzaintu_wall_step(&walk.wall, file.bytes, 27, walk.row, ANY[i].row, walk.next,
+                                  ANY[i].next, walk.letters, ANY[i].letters, &walk.offset) == 0);
+        CHECK(walk.wall.stage == POLZAINTU_START_DUE);
+        expected.wall = walk.wall;
+        CHECK(memcmp(&walk, &expected, sizeof walk) == 0);
+    }
 }
 
 /* The settings need no row; the widest wall's rows have the most bytes. */
@@ -196,13 +237,13 @@ static void most_bytes(void) {
     put_settings(&file, settings);
     polzaintu_wall wall;
     uint64_t row[POLZAINTU_WIDTH_MOST], next[POLZAINTU_WIDTH_MOST], offset;
-    uint8_t start[3 + 8 * POLZAINTU_WIDTH_MOST] = {2, 8};
+    uint8_t letters[POLZAINTU_WIDTH_MOST] = {0}, start[3 + 8 * POLZAINTU_WIDTH_MOST] = {2, 8};
     polzaintu_wall_new(&wall);
-    CHECK(polzaintu_wall_step(&wall, file.bytes, 27, row, 0, next, 0, &offset) == 0);
+    CHECK(polzaintu_wall_step(&wall, file.bytes, 27, row, 0, next, 0, letters, 0, &offset) == 0);
     CHECK(polzaintu_wall_due(&wall) == sizeof start);
     CHECK(polzaintu_wall_width(&wall) == POLZAINTU_WIDTH_MOST);
     CHECK(polzaintu_wall_step(&wall, start, sizeof start, row, POLZAINTU_WIDTH_MOST, next,
-                              POLZAINTU_WIDTH_MOST, &offset) == 0);
+                              POLZAINTU_WIDTH_MOST, letters, POLZAINTU_WIDTH_MOST, &offset) == 0);
     CHECK(polzaintu_wall_due(&wall) == POLZAINTU_DUE_MOST);
 }
 
@@ -211,6 +252,7 @@ void wall_tests(void) {
     printed_seams();
     faulty_tile();
     surveyed_wall();
+    settings_step();
     most_bytes();
     unfit_rows();
     unfit_walls();

@@ -69,7 +69,7 @@ struct walk begin(void) {
 uint32_t step(struct walk *walk, const struct wall_file *file, uint64_t taken) {
     size_t due = polzaintu_wall_due(&walk->wall), left = file->length - taken;
     return polzaintu_wall_step(&walk->wall, file->bytes + taken, due < left ? due : left, walk->row,
-                               6, walk->next, 6, &walk->offset);
+                               6, walk->next, 6, walk->letters, 6, &walk->offset);
 }
 
 void go(struct walk *walk, const struct wall_file *file, size_t steps) {

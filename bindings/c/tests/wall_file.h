@@ -33,14 +33,16 @@ void put_settings(struct wall_file *file, polzaintu_settings settings);
 size_t drift_at(size_t tag_4, size_t tile);
 size_t link_at(size_t tag_4, size_t tile, size_t sender);
 
-/* A file on its way: where it stands, the last row accepted, and the one that a step wrote. */
+/* A file on its way: where it stands, the last row accepted, and what a step wrote: a row and six
+ * letters. Two bytes more follow the letters. */
 struct walk {
     polzaintu_wall wall;
     uint64_t row[6], next[6];
     uint64_t offset;
+    uint8_t letters[8];
 };
 
-/* A walk of which no step is taken; its rows hold what `fill` leaves. */
+/* A walk of which no step is taken; its rows and letters hold what `fill` leaves. */
 struct walk begin(void);
 
 /* Takes a step of a file of which so many bytes are taken. */

@@ -5,18 +5,18 @@
 
 /* A step of a file that is turned away: the same number and offset again, whatever is lent. */
 static void refused_again(struct walk walk, uint32_t number, uint64_t offset, size_t part_len,
-                          size_t row_len, size_t next_len) {
+                          size_t row_len, size_t next_len, size_t letters_len) {
     uint8_t part[8] = {0};
     walk.offset = 77;
     struct walk expected = walk;
     expected.offset = offset;
     CHECK(polzaintu_wall_step(&walk.wall, part, part_len, walk.row, row_len, walk.next, next_len,
-                              &walk.offset) == number);
+                              walk.letters, letters_len, &walk.offset) == number);
     CHECK(memcmp(&walk, &expected, sizeof walk) == 0);
 }
 
 /* The file is turned away at one of its steps, with the number and the offset; that step leaves the
- * file and both rows, and there is nothing more to take. */
+ * file, both rows and the letters, and there is nothing more to take. */
 static void refused(struct wall_file file, uint32_t number, uint64_t offset) {
     const struct wall_file lent = file;
     struct walk walk = begin(), before = walk;
@@ -31,14 +31,16 @@ static void refused(struct wall_file file, uint32_t number, uint64_t offset) {
     CHECK(answer == number);
     CHECK(walk.offset == offset);
     CHECK(memcmp(walk.next, before.next, sizeof walk.next) == 0);
+    CHECK(memcmp(walk.letters, before.letters, sizeof walk.letters) == 0);
     CHECK(memcmp(file.bytes, lent.bytes, sizeof file.bytes) == 0);
     CHECK(walk.wall.stage == POLZAINTU_REFUSED);
     CHECK(walk.wall.row == number && walk.wall.offset == offset);
     CHECK(memcmp(&walk.wall.settings, &before.wall.settings, sizeof walk.wall.settings) == 0);
     CHECK(polzaintu_wall_due(&walk.wall) == 0);
     CHECK(polzaintu_wall_width(&walk.wall) == 0);
-    refused_again(walk, number, offset, 0, 6, 6);
-    refused_again(walk, number, offset, 8, 0, 5);
+    refused_again(walk, number, offset, 0, 6, 6, 6);
+    refused_again(walk, number, offset, 8, 0, 5, 0);
+    refused_again(walk, number, offset, 0, 6, 6, 8);
 }
 
 static const uint64_t FIELDS[] = {TAG_1, TAG_2, TAG_3, TAG_4, LAST_TAG_3, LAST_TAG_4, END};
@@ -145,6 +147,7 @@ static void late_row(void) {
     CHECK(walk.wall.stage == POLZAINTU_REFUSED && walk.wall.row == 23);
     CHECK(memcmp(walk.row, before.row, sizeof walk.row) == 0);
     CHECK(memcmp(walk.next, before.next, sizeof walk.next) == 0);
+    CHECK(memcmp(walk.letters, before.letters, sizeof walk.letters) == 0);
 }
 
 void wall_number_tests(void) {

@@ -17,6 +17,6 @@ void words_tests(void) {
     CHECK(strcmp(polzaintu_words(31), "a correct tile has a time above 2^41 - 1") == 0);
     CHECK(strcmp(polzaintu_words(POLZAINTU_UNFIT), "what was lent does not fit") == 0);
 
-    CHECK(POLZAINTU_VERSION == 3000);
+    CHECK(POLZAINTU_VERSION == 4000);
     CHECK(polzaintu_version() == POLZAINTU_VERSION);
 }

@@ -7,9 +7,15 @@
 //! lent, and nobody writes what is behind a `&`. A `bool` is 0 or 1. The structs are laid out as
 //! the header's (`repr(C)`, of 64-bit words and floating numbers), and no bits of theirs are
 //! invalid.
+//!
+//! A row of letters is lent as bytes: [`Letter`] is a `repr(u8)` whose values are the five bytes
+//! that the library writes there. It writes all of them where it accepts a row, and none where it
+//! doesn't, so that each is a [`Letter`] after every call.
 #![allow(unsafe_code)]
 
+use crate::row::Lent;
 use crate::settings::Limits;
+use crate::Letter;
 use std::mem::size_of;
 
 /// A silent sender, as a stamp and as a link value.
@@ -26,13 +32,15 @@ pub struct Stamps {
     pub count: u64,
 }
 
-/// P and the correction; `corrected` is 1, or 0 where there is none.
+/// P and the correction; `corrected` is 1, or 0 where there is none. The letter is a [`Letter`]'s
+/// byte.
 #[repr(C)]
 #[derive(Default)]
 pub struct Forwarded {
     pub p: i64,
     pub correction: i64,
     pub corrected: i64,
+    pub letter: i64,
 }
 
 /// The earliest and latest time of a row.
@@ -130,9 +138,10 @@ pub struct Wall {
 }
 
 const _: () = assert!(size_of::<usize>() == 8);
+const _: () = assert!(size_of::<Letter>() == 1);
 const _: () = assert!(size_of::<Limits>() == 7 * 8);
 const _: () = assert!(size_of::<Stamps>() == 5 * 8);
-const _: () = assert!(size_of::<Forwarded>() == 3 * 8);
+const _: () = assert!(size_of::<Forwarded>() == 4 * 8);
 const _: () = assert!(size_of::<Ends>() == 2 * 8);
 const _: () = assert!(size_of::<Halves>() == 2 * 8);
 const _: () = assert!(size_of::<Range>() == 3 * 8);
@@ -164,6 +173,8 @@ extern "C" {
         links_len: usize,
         times: *mut u64,
         times_len: usize,
+        letters: *mut u8,
+        letters_len: usize,
         ends: *mut Ends,
     ) -> u32;
     fn polzaintu_seam(
@@ -244,6 +255,8 @@ extern "C" {
         row_len: usize,
         next: *mut u64,
         next_len: usize,
+        letters: *mut u8,
+        letters_len: usize,
         offset: *mut u64,
     ) -> u32;
 }
@@ -260,15 +273,20 @@ pub fn tile(settings: &Limits, stamps: &Stamps, answer: &mut Forwarded) -> u32 {
 
 pub fn row(
     settings: &Limits,
-    before: &[u64],
-    marks: &[u8],
-    drifts: &[u32],
-    links: &[u64],
+    lent: &Lent,
     times: &mut [u64],
+    letters: &mut [Letter],
     ends: &mut Ends,
 ) -> u32 {
-    // SAFETY: each pointer is a slice's, with that slice's length, or a reference's; the times and
-    // the ends, which are written, are behind a `&mut`.
+    let Lent {
+        before,
+        marks,
+        drifts,
+        links,
+    } = lent;
+    // SAFETY: each pointer is a slice's, with that slice's length, or a reference's; the times, the
+    // letters and the ends, which are written, are each behind a `&mut`. The letters are written
+    // with letters alone, or left as they are.
     unsafe {
         polzaintu_row(
             settings,
@@ -282,6 +300,8 @@ pub fn row(
             links.len(),
             times.as_mut_ptr(),
             times.len(),
+            letters.as_mut_ptr().cast(),
+            letters.len(),
             ends,
         )
     }
@@ -429,10 +449,12 @@ pub fn wall_step(
     part: &[u8],
     row: &[u64],
     next: &mut [u64],
+    letters: &mut [Letter],
     offset: &mut u64,
 ) -> u32 {
     // SAFETY: each pointer is a slice's, with that slice's length, or a reference's; the wall, the
-    // next row and the offset, which are written, are each behind a `&mut`.
+    // next row, the letters and the offset, which are written, are each behind a `&mut`. The letters
+    // are written with letters alone, or left as they are.
     unsafe {
         polzaintu_wall_step(
             wall,
@@ -442,6 +464,8 @@ pub fn wall_step(
             row.len(),
             next.as_mut_ptr(),
             next.len(),
+            letters.as_mut_ptr().cast(),
+            letters.len(),
             offset,
         )
     }

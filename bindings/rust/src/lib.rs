@@ -8,6 +8,7 @@
 //! - [`Settings`]: checked settings of a wall.
 //! - [`tile::forward`]: what one tile forwards.
 //! - [`row::plan`]: a row's pulse times, from the row before.
+//! - [`Letter`]: which rule fixed a pulse; tiles, rows and wall files have one for each.
 //! - [`seam::join`]: the midpoint and half gap of two neighbouring tiles.
 //! - [`seam::row_seam`], [`row::marked`], [`row::link_place`]: where the seams, marks and links of a
 //!   row stand.
@@ -19,19 +20,21 @@
 //! ```
 //! use polzaintu::row::{self, Lent};
 //! use polzaintu::seam::{self, Seam};
-//! use polzaintu::{Limits, Settings};
+//! use polzaintu::{Letter, Limits, Settings};
 //!
 //! let settings = Settings::new(Limits {
 //!     width: 6, rows: 1, delay: 100, uncertainty: 10, hold: 400, drift: 0, unit: 12,
 //! })?;
 //! let mut times = [0; 6];
+//! let mut letters = [Letter::Kept; 6];
 //! let ends = row::plan(&settings, Lent {
 //!     before: &[1000, 1000, 1000, 1080, 1000, 1000],
 //!     marks: &[0],
 //!     drifts: &[0; 6],
 //!     links: &[100; 20],
-//! }, &mut times)?;
+//! }, &mut times, &mut letters)?;
 //! assert_eq!(times, [1500, 1500, 1500, 1536, 1500, 1500]);
+//! assert_eq!((letters[2], letters[3]), (Letter::Kept, Letter::Late));
 //! assert_eq!((ends.earliest, ends.latest), (1500, 1536));
 //! let seam = seam::join(Some(times[2]), Some(times[3]))?;
 //! assert_eq!(seam, Seam::Closed { midpoint: 1518.0, half_gap: 18.0 });
@@ -39,6 +42,7 @@
 //! ```
 
 mod ffi;
+mod letter;
 pub mod reach;
 mod refusal;
 pub mod row;
@@ -49,6 +53,7 @@ pub mod wall;
 pub mod waves;
 mod words;
 
+pub use letter::Letter;
 pub use refusal::Refusal;
 pub use settings::{Limits, Settings};
 

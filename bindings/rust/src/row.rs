@@ -1,6 +1,6 @@
-//! One row of pulses, worked out from the row before it: §7.1 to §7.6.
+//! One row of pulses, worked out from the row before it: §7.1 to §7.6, §E3.4.
 
-use crate::{ffi, Refusal, Settings};
+use crate::{ffi, Letter, Refusal, Settings};
 
 /// The link value of a faulty sender that is silent.
 pub const SILENT: u64 = ffi::SILENT;
@@ -35,10 +35,13 @@ pub struct Ends {
     pub latest: u64,
 }
 
-/// Writes the W times of the row, or answers number 21 to 26 and leaves them as they were.
+/// Writes the W times of the row and the letter of each, which says what rule fixed it, or answers
+/// number 21 to 26 and leaves times and letters as they were. A tile that the row after marks faulty
+/// has a letter too.
 ///
 /// ```
 /// use polzaintu::row::{self, Ends, Lent, SILENT};
+/// use polzaintu::Letter;
 /// # use polzaintu::{Limits, Settings};
 /// # let settings = Settings::new(Limits {
 /// #     width: 6, rows: 1, delay: 100, uncertainty: 10, hold: 400, drift: 0, unit: 12,
@@ -50,26 +53,25 @@ pub struct Ends {
 ///     links[place] = SILENT;
 /// }
 /// let lent = Lent { before: &[1000; 6], marks: &[1 << 5], drifts: &[0; 6], links: &links };
-/// let mut times = [0; 6];
-/// assert_eq!(row::plan(&settings, lent, &mut times)?, Ends { earliest: 1500, latest: 1536 });
+/// let (mut times, mut letters) = ([0; 6], [Letter::Kept; 6]);
+/// let ends = row::plan(&settings, lent, &mut times, &mut letters)?;
+/// assert_eq!(ends, Ends { earliest: 1500, latest: 1536 });
 /// assert_eq!(times, [1500, 1500, 1500, 1500, 1500, 1536]);
+/// assert_eq!((letters[4], letters[5]), (Letter::Kept, Letter::Late));
 /// # Ok::<(), polzaintu::Refusal>(())
 /// ```
-pub fn plan(settings: &Settings, lent: Lent, times: &mut [u64]) -> Result<Ends, Refusal> {
-    let Lent {
-        before,
-        marks,
-        drifts,
-        links,
-    } = lent;
+pub fn plan(
+    settings: &Settings,
+    lent: Lent,
+    times: &mut [u64],
+    letters: &mut [Letter],
+) -> Result<Ends, Refusal> {
     let mut ends = ffi::Ends::default();
     Refusal::check(ffi::row(
         settings.limits(),
-        before,
-        marks,
-        drifts,
-        links,
+        &lent,
         times,
+        letters,
         &mut ends,
     ))?;
     Ok(Ends {

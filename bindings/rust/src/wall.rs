@@ -1,4 +1,4 @@
-//! Wall files, and the rows that a file describes as they become known: §9.1 to §9.8, §10.1.
+//! Wall files, and the rows that a file describes as they become known: §9.1 to §9.8, §10.1, §E3.6.
 //!
 //! `docs/FORMAT.md` has the format. The marks of a row come with the row after it, so a row is
 //! known, and its seams with it, once the next row is accepted; the last once the file has ended.
@@ -13,7 +13,7 @@ pub use reader::{Error, Reader};
 pub use search::{SearchError, SearchRange, Tile};
 pub use shown::Row;
 
-use crate::{ffi, Refusal, Settings};
+use crate::{ffi, Letter, Refusal, Settings};
 use std::{error, fmt, mem};
 
 /// A file is turned away.
@@ -67,9 +67,27 @@ pub enum Stage {
 #[derive(Clone, Debug)]
 pub struct Wall {
     at: ffi::Wall,
-    /// The last row accepted, and room for the next: W times each, once the settings are taken.
-    row: Vec<u64>,
-    next: Vec<u64>,
+    /// The last row accepted, and room for the next: of W tiles each, once the settings are taken.
+    row: Pulses,
+    next: Pulses,
+}
+
+/// The pulses of a row: their times and letters. Row 0 has no letters; what stands in their place
+/// says nothing.
+#[derive(Clone, Debug, Default, PartialEq, Eq)]
+struct Pulses {
+    times: Vec<u64>,
+    letters: Vec<Letter>,
+}
+
+impl Pulses {
+    /// Room for a row of so many tiles.
+    fn room(width: usize) -> Pulses {
+        Pulses {
+            times: vec![0; width],
+            letters: vec![Letter::Kept; width],
+        }
+    }
 }
 
 impl Wall {
@@ -81,8 +99,8 @@ impl Wall {
     pub fn new() -> Wall {
         Wall {
             at: ffi::wall_new(),
-            row: Vec::new(),
-            next: Vec::new(),
+            row: Pulses::default(),
+            next: Pulses::default(),
         }
     }
 
@@ -119,9 +137,16 @@ impl Wall {
     #[must_use]
     pub fn last_row(&self) -> Option<(u64, &[u64])> {
         match self.stage() {
-            Stage::Row | Stage::End => Some((self.at.row, &self.row)),
+            Stage::Row | Stage::End => Some((self.at.row, &self.row.times)),
             _ => None,
         }
+    }
+
+    /// The letters of the last row accepted, until the file is over. Row 0 has none.
+    #[must_use]
+    pub fn last_letters(&self) -> Option<&[Letter]> {
+        let (number, _) = self.last_row()?;
+        (number > 0).then_some(&self.row.letters)
     }
 
     /// Takes the part of the file that is due, and answers the row that is then known: row L where
@@ -154,20 +179,27 @@ impl Wall {
     fn known(&mut self, part: &[u8]) -> Result<Option<Row>, Refused> {
         let (stage, number, settings) = (self.stage(), self.at.row, self.settings());
         let mut offset = 0;
-        let answer = ffi::wall_step(&mut self.at, part, &self.row, &mut self.next, &mut offset);
-        // Both rows are W long, and steps alone write the wall.
+        let answer = ffi::wall_step(
+            &mut self.at,
+            part,
+            &self.row.times,
+            &mut self.next.times,
+            &mut self.next.letters,
+            &mut offset,
+        );
+        // Both rows and the letters are W long, and steps alone write the wall.
         assert_ne!(answer, ffi::UNFIT, "the part is longer than is due");
         Refusal::check(answer).map_err(|refusal| Refused { refusal, offset })?;
         match stage {
             Stage::Settings => {
                 let width = ffi::wall_width(&self.at);
-                self.row = vec![0; width];
-                self.next = vec![0; width];
+                self.row = Pulses::room(width);
+                self.next = Pulses::room(width);
             }
             Stage::Start | Stage::Row => mem::swap(&mut self.row, &mut self.next),
             Stage::End | Stage::Ended | Stage::Refused => {}
         }
-        let marks = self.row.len().div_ceil(8);
+        let marks = self.row.times.len().div_ceil(8);
         Ok(match (stage, settings) {
             // The row before is in `next` now, and its marks follow the three bytes of tag 3.
             (Stage::Row, Some(settings)) => {

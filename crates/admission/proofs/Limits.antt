@@ -35,7 +35,8 @@ module _ (s : Settings) (ts : List ℕ) (x : Call) where
           eq-eqb (length (x .marks)) ((w + 7) / 8) (omega (arith, k .marks-long)),
           eq-eqb (length (x .drifts)) w (k .drifts-long),
           eq-eqb (length (x .links)) (3 * w + 2) (k .links-long),
-        ) (eq-eqb (x .room) w (k .room-long))
+          eq-eqb (x .room) w (k .room-long),
+        ) (eq-eqb (x .letter-room) w (k .letters-long))
 
     none-late : any-below (s .width) (late-time ts (x .marks)) ≡ false
     unfolding late-time
@@ -84,6 +85,7 @@ module _ (s : Settings) (ts : List ℕ) (x : Call) where
           drifts-long = a .lengths .drifts;
           links-long = a .lengths .links;
           room-long = a .lengths .room;
+          letters-long = a .lengths .letters;
           early = a .time;
           tiles = within-limits s (x .marks) (x .drifts) (x .links) (k .width .0) (a .lengths .marks) untouched;
         }

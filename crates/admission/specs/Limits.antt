@@ -46,7 +46,7 @@ pub record Tile-limits (s : Settings) (marks drifts links : List ℕ) : Type 0 w
       (getD links n 0 ≤ 1099511627775) ⊎ (getD links n 0 ≡ 18446744073709551615)
 
 -- §7.4 a row call within its limits: W times of the row before, W / 8 rounded up bytes of marks, W drifts, 3W + 2 link values
--- and room for W times; a correct tile's time is at most 2^40 - 1
+-- and room for W times and W letters (§E3.4); a correct tile's time is at most 2^40 - 1
 pub record Row-limits (s : Settings) (before : List ℕ) (x : Call) : Type 0 where
   pub settings : Limits s
   pub before-long : length before ≡ s .width
@@ -54,6 +54,7 @@ pub record Row-limits (s : Settings) (before : List ℕ) (x : Call) : Type 0 whe
   pub drifts-long : length (x .drifts) ≡ s .width
   pub links-long : length (x .links) ≡ 3 * s .width + 2
   pub room-long : x .room ≡ s .width
+  pub letters-long : x .letter-room ≡ s .width
   pub early : (c : ℕ) → c < s .width → marked (x .marks) c ≡ false → getD before c 0 ≤ 1099511627775
   pub tiles : Tile-limits s (x .marks) (x .drifts) (x .links)
 

@@ -12,14 +12,14 @@ use Rattle.admission.specs.Call.{Call}
 use Rattle.links.specs.Links.{latest-time, bad-links}
 use Rattle.columns.specs.Marks.{marked, mark-bytes, faulty-among}
 
--- §7.4 not 21: W times before, W / 8 rounded up bytes of marks, W drifts, 3W + 2 links, room for W times
-unfoldable pub lengths-are : (w before marks drifts links room : ℕ) → Bool
-lengths-are w before marks drifts links room =
-    eqb before w && (eqb marks (mark-bytes w) && (eqb drifts w && (eqb links (3 * w + 2) && eqb room w)))
+-- §7.4 not 21: W times before, W / 8 rounded up bytes of marks, W drifts, 3W + 2 links, room for W times, and for W letters (§E3.4)
+unfoldable pub lengths-are : (w before marks drifts links room letter-room : ℕ) → Bool
+lengths-are w before marks drifts links room letter-room =
+    eqb before w && (eqb marks (mark-bytes w) && (eqb drifts w && (eqb links (3 * w + 2) && (eqb room w && eqb letter-room w))))
 
 -- §7.4 not 21, of what a call is lent
 unfoldable pub lengths-right : (w : ℕ) → (before : List ℕ) → Call → Bool
-lengths-right w ts x = lengths-are w (length ts) (length (x .marks)) (length (x .drifts)) (length (x .links)) (x .room)
+lengths-right w ts x = lengths-are w (length ts) (length (x .marks)) (length (x .drifts)) (length (x .links)) (x .room) (x .letter-room)
 
 -- §7.4 22: bit k is set, and there is no column k
 unfoldable pub stray-mark : (w : ℕ) → (marks : List ℕ) → (k : ℕ) → Bool

@@ -28,8 +28,9 @@ pub fn refusal(
     drifts: &[u32],
     links: &[u64],
     room: usize,
+    letters: usize,
 ) -> u32
-    ensures { λ r. ⌜ r ≡ row-refusal settings (now (before .entry)) (call (now (marks .entry)) (now (drifts .entry)) (now (links .entry)) room) ⌝ }
+    ensures { λ r. ⌜ r ≡ row-refusal settings (now (before .entry)) (call (now (marks .entry)) (now (drifts .entry)) (now (links .entry)) room letters) ⌝ }
 {
     let number = settings.refusal();
     if number != 0 {
@@ -43,6 +44,7 @@ pub fn refusal(
         drifts.len(),
         links.len(),
         room,
+        letters,
     ) {
         return 21;
     }
@@ -72,9 +74,10 @@ fn lengths(
     drifts: usize,
     links: usize,
     room: usize,
+    letters: usize,
 ) -> bool
     requires { ⌜ width ≤ 256 ⌝ }
-    ensures { λ r. ⌜ r ≡ lengths-are width before marks drifts links room ⌝ }
+    ensures { λ r. ⌜ r ≡ lengths-are width before marks drifts links room letters ⌝ }
 {
     if before != width {
         return false;
@@ -88,7 +91,10 @@ fn lengths(
     if links != 3 * width + 2 {
         return false;
     }
-    room == width
+    if room != width {
+        return false;
+    }
+    letters == width
 }
 
 // 22: a mark past the last column.

@@ -8,7 +8,8 @@ use Rattle.rule.specs.Signed.{larger, smaller, natural}
 use Rattle.rule.specs.Clock.{reads, first-tick}
 use Rattle.rule.specs.Stamp.{earlier, later, earliest, latest, stamp-of}
 use Rattle.rule.specs.Forward.{larger-at, least-to, D, heard-correction, P, correction}
-use Rattle.rule.specs.Pulse.{tile-P, tile-pulse}
+use Rattle.rule.specs.Letter.{early-or-kept, heard-letter, letter}
+use Rattle.rule.specs.Pulse.{tile-P, tile-pulse, tile-letter}
 use Rattle.tile.specs.Tile.{silent-at, reading-at, stamp-from, stamp-at, neighbour-places, own-stamp, neighbour-stamps, late-from, late-at, count-silent, silences, stamp-tests, tile-tests, tile-refusal, answer, answered, forwarded, number-of as tile-number}
 use Rattle.seam.specs.Seam.{half, halves, late, joined, seam-of, number-of as seam-number}
 use Rattle.columns.specs.Columns.{are-neighbours, columns-from, neighbours, is-predecessor, predecessors, links-before, place-in as place-of, link-place, link, table-from, any-of}
@@ -16,8 +17,8 @@ use Rattle.columns.specs.Marks.{marked, mark-bytes, faulty-among}
 use Rattle.links.specs.Links.{bad-value, bad-link, bad-links}
 use Rattle.admission.specs.Call.{call}
 use Rattle.admission.specs.Refusal.{lengths-are, lengths-right, stray-mark, late-time, crowded, fast, row-tests, row-refusal}
-use Rattle.pulse.specs.Pulse.{arrives, arrival, read-at, stamp, pulse}
-use Rattle.row.specs.Row.{row-of, least-of, most-of, planned, written, number-of as row-number}
+use Rattle.pulse.specs.Pulse.{arrives, arrival, read-at, stamp, pulse, letter-at}
+use Rattle.row.specs.Row.{row-of, letters-of, least-of, most-of, planned, written, lettered, number-of as row-number}
 use Rattle.runs.specs.Reach.{apart, widest, gap-below, widest-gap, reach-ticks}
 use Rattle.reach.specs.Span.{end-within, first-within, last-within}
 use Rattle.reach.specs.Search.{gap-of, outside-wall, reach-of, reach-in-row}
@@ -31,12 +32,12 @@ use Rattle.calls.specs.Answers.{forwarded-left, ends-left, side-left, ha
 use Rattle.calls.specs.Cases.{wall-settings, Tile, Tile-cases, row-0, Planned, Row-cases, held-halves, Seam, Seam-cases, Widest, Widest-cases, Range, Range-cases, Range-in-row, Range-in-row-cases, Survey, Survey-cases, Seam-columns, Seam-columns-cases, row-1, Row-seam, Row-seam-cases, Marked, Mark-cases, Link-at, Link-cases}
 
 pub tile-cases : Tile-cases
-unfolding Tile-cases Tile wall-settings settings-from settings settings-refusal settings-tests first outside drift-cost up stamps-in stamp-in at-most tile-number forwarded-left forwarded tile-refusal tile-tests stamp-tests any-below late-at late-from silences count-silent answered answer own-stamp neighbour-stamps neighbour-places stamp-at stamp-from silent-at reading-at natural P correction heard-correction D least-to larger-at larger smaller earliest latest earlier later step-of step
-tile-cases = ((refl, refl), (refl, refl), (refl, refl), (refl, refl), (refl, refl), (refl, refl), (refl, refl))
+unfolding Tile-cases Tile wall-settings settings-from settings settings-refusal settings-tests first outside drift-cost up stamps-in stamp-in at-most tile-number forwarded-left forwarded tile-refusal tile-tests stamp-tests any-below late-at late-from silences count-silent answered answer own-stamp neighbour-stamps neighbour-places stamp-at stamp-from silent-at reading-at natural letter heard-letter early-or-kept P correction heard-correction D least-to larger-at larger smaller earliest latest earlier later step-of step
+tile-cases = ((refl, refl), (refl, refl), (refl, refl), (refl, refl), (refl, refl), (refl, refl), (refl, refl), (refl, refl), (refl, refl), (refl, refl))
 
 pub row-cases : Row-cases
-unfolding Row-cases Planned row-0 wall-settings settings-from settings settings-refusal settings-tests first outside drift-cost up call planned written row-number ends-left least-of most-of row-refusal row-tests any-below any-of mark-bytes lengths-are lengths-right stray-mark late-time faulty-among crowded fast bad-value bad-link bad-links marked link link-place links-before place-of predecessors is-predecessor are-neighbours columns-from neighbours row-of table-from pulse tile-pulse tile-P P heard-correction D least-to larger-at larger smaller natural stamp arrival arrives read-at reads first-tick stamp-of earliest latest earlier later step-of step
-row-cases = ((refl, refl, refl), (refl, refl, refl))
+unfolding Row-cases Planned row-0 wall-settings settings-from settings settings-refusal settings-tests first outside drift-cost up call planned written lettered row-number ends-left least-of most-of row-refusal row-tests any-below any-of mark-bytes lengths-are lengths-right stray-mark late-time faulty-among crowded fast bad-value bad-link bad-links marked link link-place links-before place-of predecessors is-predecessor are-neighbours columns-from neighbours row-of letters-of table-from pulse letter-at tile-pulse tile-letter letter heard-letter early-or-kept tile-P P heard-correction D least-to larger-at larger smaller natural stamp arrival arrives read-at reads first-tick stamp-of earliest latest earlier later step-of step
+row-cases = ((refl, refl, refl, refl), (refl, refl, refl, refl))
 
 pub seam-cases : Seam-cases
 unfolding Seam-cases Seam held-halves seam-number side-left halves-left side-word seam-of late joined halves half toBits round

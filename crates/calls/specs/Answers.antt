@@ -7,6 +7,7 @@ use lib.Dec.{eqb}
 use lib.IntN.{ℤ, pos}
 use lib.Ieee.{Float}
 use lib.ListN.{getD}
+use Rattle.rule.specs.Letter.{byte-of}
 use Rattle.tile.specs.declared.Forwarded.{Forwarded}
 use Rattle.tile.specs.declared.Forwarded.the-variants as forwarded
 use Rattle.row.specs.declared.Planned.{Planned}
@@ -31,10 +32,10 @@ use Rattle.places.specs.declared.links.Link.{Link}
 use Rattle.places.specs.declared.links.Link.the-variants as link
 use Rattle.layout.specs.Words.{unfit, side-word}
 
--- §17.1 a tile's P, correction, and whether it has one
+-- §17.1 a tile's P, correction, whether it has one, and its letter (§E3.6)
 unfoldable pub forwarded-left : Forwarded → (held : List ℤ) → List ℤ
-forwarded-left (forwarded.Corrected p c) held = p ∷ c ∷ pos 1 ∷ []
-forwarded-left (forwarded.Uncorrected p) held = p ∷ pos 0 ∷ pos 0 ∷ []
+forwarded-left (forwarded.Corrected p c x) held = p ∷ c ∷ pos 1 ∷ pos (byte-of x) ∷ []
+forwarded-left (forwarded.Uncorrected p x) held = p ∷ pos 0 ∷ pos 0 ∷ pos (byte-of x) ∷ []
 forwarded-left (forwarded.Refused n) held = held
 
 -- §17.1 a row's earliest and latest time

@@ -10,7 +10,7 @@ use lib.ListN.{replicate, getD}
 use Rattle.settings.specs.declared.Settings.{Settings}
 use Rattle.tile.specs.Tile.{forwarded, number-of as tile-number}
 use Rattle.admission.specs.Call.{call}
-use Rattle.row.specs.Row.{planned, written, number-of as row-number}
+use Rattle.row.specs.Row.{planned, written, lettered, number-of as row-number}
 use Rattle.seam.specs.Seam.{seam-of, number-of as seam-number}
 use Rattle.reach.specs.Search.{gap-of, reach-of, reach-in-row}
 use Rattle.reach.specs.Survey.{surveyed-of}
@@ -25,40 +25,44 @@ use Rattle.calls.specs.Answers.{forwarded-left, ends-left, side-left, ha
 unfoldable pub wall-settings : Settings
 wall-settings = settings-from 0 (6 ∷ 1 ∷ 100 ∷ 10 ∷ 400 ∷ 0 ∷ 12 ∷ [])
 
--- §17.1 polzaintu_tile: own, three neighbours and the count; its number, and p, correction, corrected
+-- §17.1 polzaintu_tile: own, three neighbours and the count; its number, and p, correction, corrected, letter
 unfoldable pub Tile : (stamps : List ℕ) → (number : ℕ) → (answer : List ℤ) → Type 0
 Tile ws n a =
     (tile-number (forwarded wall-settings (stamps-in ws)) ≡ n)
-    × (forwarded-left (forwarded wall-settings (stamps-in ws)) (pos 7 ∷ pos 8 ∷ pos 9 ∷ []) ≡ a)
+    × (forwarded-left (forwarded wall-settings (stamps-in ws)) (pos 7 ∷ pos 8 ∷ pos 9 ∷ pos 10 ∷ []) ≡ a)
 
--- §17.1 stamps of each kind, and 11, 12 and 13, which leave the answer as it was
+-- §17.1 stamps of each kind and letter, and 11, 12 and 13, which leave the answer as it was
 unfoldable pub Tile-cases : Type 0
 Tile-cases =
-    Tile (200 ∷ 100 ∷ 100 ∷ 0 ∷ 2 ∷ []) 0 (pos 136 ∷ pos 64 ∷ pos 1 ∷ [])
-    × Tile (63 ∷ 100 ∷ 100 ∷ 0 ∷ 2 ∷ []) 0 (pos 64 ∷ negsuc 0 ∷ pos 1 ∷ [])
-    × Tile (18446744073709551615 ∷ 100 ∷ 130 ∷ 0 ∷ 2 ∷ []) 0 (pos 166 ∷ pos 0 ∷ pos 0 ∷ [])
-    × Tile (50 ∷ 100 ∷ 18446744073709551615 ∷ 0 ∷ 2 ∷ []) 0 (pos 64 ∷ negsuc 13 ∷ pos 1 ∷ [])
-    × Tile (200 ∷ 100 ∷ 100 ∷ 100 ∷ 4 ∷ []) 11 (pos 7 ∷ pos 8 ∷ pos 9 ∷ [])
-    × Tile (200 ∷ 100 ∷ 2199023255552 ∷ 0 ∷ 2 ∷ []) 12 (pos 7 ∷ pos 8 ∷ pos 9 ∷ [])
-    × Tile (18446744073709551615 ∷ 100 ∷ 18446744073709551615 ∷ 0 ∷ 2 ∷ []) 13 (pos 7 ∷ pos 8 ∷ pos 9 ∷ [])
+    Tile (200 ∷ 100 ∷ 100 ∷ 0 ∷ 2 ∷ []) 0 (pos 136 ∷ pos 64 ∷ pos 1 ∷ pos 108 ∷ [])
+    × Tile (63 ∷ 100 ∷ 100 ∷ 0 ∷ 2 ∷ []) 0 (pos 64 ∷ negsuc 0 ∷ pos 1 ∷ pos 101 ∷ [])
+    × Tile (18446744073709551615 ∷ 100 ∷ 130 ∷ 0 ∷ 2 ∷ []) 0 (pos 166 ∷ pos 0 ∷ pos 0 ∷ pos 108 ∷ [])
+    × Tile (50 ∷ 100 ∷ 18446744073709551615 ∷ 0 ∷ 2 ∷ []) 0 (pos 64 ∷ negsuc 13 ∷ pos 1 ∷ pos 101 ∷ [])
+    × Tile (100 ∷ 100 ∷ 100 ∷ 0 ∷ 2 ∷ []) 0 (pos 100 ∷ pos 0 ∷ pos 1 ∷ pos 107 ∷ [])
+    × Tile (112 ∷ 100 ∷ 100 ∷ 0 ∷ 2 ∷ []) 0 (pos 112 ∷ pos 0 ∷ pos 1 ∷ pos 109 ∷ [])
+    × Tile (137 ∷ 100 ∷ 100 ∷ 0 ∷ 2 ∷ []) 0 (pos 113 ∷ pos 24 ∷ pos 1 ∷ pos 98 ∷ [])
+    × Tile (200 ∷ 100 ∷ 100 ∷ 100 ∷ 4 ∷ []) 11 (pos 7 ∷ pos 8 ∷ pos 9 ∷ pos 10 ∷ [])
+    × Tile (200 ∷ 100 ∷ 2199023255552 ∷ 0 ∷ 2 ∷ []) 12 (pos 7 ∷ pos 8 ∷ pos 9 ∷ pos 10 ∷ [])
+    × Tile (18446744073709551615 ∷ 100 ∷ 18446744073709551615 ∷ 0 ∷ 2 ∷ []) 13 (pos 7 ∷ pos 8 ∷ pos 9 ∷ pos 10 ∷ [])
 
 -- §14.4 row 0
 unfoldable pub row-0 : List ℕ
 row-0 = 1000 ∷ 1000 ∷ 1000 ∷ 1080 ∷ 1000 ∷ 1000 ∷ []
 
--- §17.1 polzaintu_row with this delay on the first link: its number, the times, and the earliest and the latest of them
-unfoldable pub Planned : (link : ℕ) → (number : ℕ) → (times ends : List ℕ) → Type 0
-Planned v n times ends =
-    let x = call (0 ∷ []) (replicate 6 0) (v ∷ replicate 19 100) 6 in
+-- §17.1 polzaintu_row with this delay on the first link: its number, the times, the letters, and the earliest and the latest time
+unfoldable pub Planned : (link : ℕ) → (number : ℕ) → (times letters ends : List ℕ) → Type 0
+Planned v n times letters ends =
+    let x = call (0 ∷ []) (replicate 6 0) (v ∷ replicate 19 100) 6 6 in
     (row-number (planned wall-settings row-0 x) ≡ n)
     × (written wall-settings row-0 x (replicate 6 7) ≡ times)
+    × (lettered wall-settings row-0 x (replicate 6 7) ≡ letters)
     × (ends-left (planned wall-settings row-0 x) (7 ∷ 8 ∷ []) ≡ ends)
 
--- §17.1 a row, and a delay of 101, which is 26 and leaves both as they were
+-- §17.1 a row, and a delay of 101, which is 26 and leaves all as it was
 unfoldable pub Row-cases : Type 0
 Row-cases =
-    Planned 100 0 (1500 ∷ 1500 ∷ 1500 ∷ 1536 ∷ 1500 ∷ 1500 ∷ []) (1500 ∷ 1536 ∷ [])
-    × Planned 101 26 (replicate 6 7) (7 ∷ 8 ∷ [])
+    Planned 100 0 (1500 ∷ 1500 ∷ 1500 ∷ 1536 ∷ 1500 ∷ 1500 ∷ []) (107 ∷ 107 ∷ 107 ∷ 108 ∷ 107 ∷ 107 ∷ []) (1500 ∷ 1536 ∷ [])
+    × Planned 101 26 (replicate 6 7) (replicate 6 7) (7 ∷ 8 ∷ [])
 
 -- §17.1 floats that are there before
 unfoldable pub held-halves : List Float

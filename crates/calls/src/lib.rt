@@ -17,18 +17,24 @@ ghost use Rattle.seam.specs.Seam.{number-of as Seam·number-of};
 ghost use Rattle.reach.specs.Answers.{gap-number};
 ghost use Rattle.calls.specs.Answers.{forwarded-left, ends-left, side-left, halves-left, gap-left, reach-number, reach-left, columns-number, columns-left, row-seam-number, row-seam-columns, row-seam-side, row-seam-halves, mark-number, mark-left, link-number, link-left};
 
-// P, the correction, and whether there is one.
-pub fn forwarded_left(forwarded: Forwarded, answer: &mut [i64; 3]) -> u32
+// P, the correction, whether there is one, and the letter.
+pub fn forwarded_left(forwarded: Forwarded, answer: &mut [i64; 4]) -> u32
     ensures number { λ r. ⌜ r ≡ Tile·number-of forwarded ⌝ }
     ensures answer { λ r. ⌜ now (answer .exit) ≡ forwarded-left forwarded (now (answer .entry)) ⌝ }
 {
     match forwarded {
-        Forwarded::Corrected { p, correction } => {
-            *answer = [p, correction, 1];
+        Forwarded::Corrected {
+            p,
+            correction,
+            letter,
+        } => {
+            let byte = letter.byte() as i64;
+            *answer = [p, correction, 1, byte];
             0
         }
-        Forwarded::Uncorrected { p } => {
-            *answer = [p, 0, 0];
+        Forwarded::Uncorrected { p, letter } => {
+            let byte = letter.byte() as i64;
+            *answer = [p, 0, 0, byte];
             0
         }
         Forwarded::Refused(number) => number,

@@ -1,5 +1,6 @@
 // A number as cases write it: decimal digits, or an x and hexadecimal digits. One with a '-' before
-// its digits is given as its 64 bits.
+// its digits is given as its 64 bits. A quote and up to eight characters are the number that their
+// bytes make, the first of them the highest.
 use std::num::wrapping_sub_u64;
 ghost use Prim.Native.Nat.{_≤_, _<_};
 
@@ -32,7 +33,30 @@ pub fn read(word: &[u8]) -> Number {
             right: size.right,
         };
     }
+    if first == b'\'' {
+        return characters(&word[1..]);
+    }
     digits(word, 10)
+}
+
+fn characters(word: &[u8]) -> Number {
+    let mut value: u64 = 0;
+    let mut i = 0;
+    while i < word.len() {
+        if MOST / 256 < value {
+            return NOT;
+        }
+        value = value * 256 + code(word[i]);
+        i += 1;
+    }
+    Number { value, right: true }
+}
+
+// What a character stands for.
+fn code(byte: u8) -> u64
+    ensures { λ r. ⌜ r < 256 ⌝ }
+{
+    byte as u64
 }
 
 fn digits(word: &[u8], base: u64) -> Number

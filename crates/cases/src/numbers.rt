@@ -2,8 +2,9 @@
 use crate::number;
 use bytes::scan::find;
 
-// Up to 18 numbers, from the first, and zeros after them.
+// Up to 19 numbers, from the first, and zeros after them.
 pub struct Numbers(
+    pub u64,
     pub u64,
     pub u64,
     pub u64,
@@ -24,16 +25,16 @@ pub struct Numbers(
     pub u64,
 );
 
-// The last 18 numbers read, the last of them at the end, and how many were read.
+// The last 19 numbers read, the last of them at the end, and how many were read.
 pub struct Words {
     pub last: Numbers,
     pub count: usize,
 }
 
 impl Numbers {
-    const COUNT: usize = 18;
+    const COUNT: usize = 19;
 
-    const ZEROS: Numbers = Numbers(0, 0, 0, 0, 0, 0, 0, 0, 0, 0, 0, 0, 0, 0, 0, 0, 0, 0);
+    const ZEROS: Numbers = Numbers(0, 0, 0, 0, 0, 0, 0, 0, 0, 0, 0, 0, 0, 0, 0, 0, 0, 0, 0);
 
     // With one number more at the end, and without the first.
     fn and(self, next: u64) -> Numbers {
@@ -55,6 +56,7 @@ impl Numbers {
             self.15,
             self.16,
             self.17,
+            self.18,
             next,
         )
     }
@@ -93,7 +95,7 @@ pub fn of_words(words: &[u8]) -> Words {
     Words { last, count }
 }
 
-// Up to 18 numbers, moved to the front.
+// Up to 19 numbers, moved to the front.
 pub fn from_first(words: Words) -> Numbers {
     let mut numbers = words.last;
     let mut count = words.count;

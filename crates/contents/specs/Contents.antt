@@ -80,4 +80,4 @@ tiles-in w bs = body (tiles-size w) (drop (marks-field w) bs)
 
 -- §9.7 the row call that both fields describe, judged as one
 unfoldable pub call-in : (w : ℕ) → (rest : List ℕ) → Call
-call-in w bs = call (marks-in w bs) (drifts-in w (tiles-in w bs)) (links-in w (tiles-in w bs)) w
+call-in w bs = call (marks-in w bs) (drifts-in w (tiles-in w bs)) (links-in w (tiles-in w bs)) w w

@@ -8,14 +8,15 @@ use Rattle.rule.specs.Clock.{reads, first-tick}
 use Rattle.rule.specs.Signed.{larger, smaller, natural}
 use Rattle.rule.specs.Stamp.{earlier, later, earliest, latest, stamp-of}
 use Rattle.rule.specs.Forward.{larger-at, least-to, D, heard-correction, P}
-use Rattle.rule.specs.Pulse.{tile-P, tile-pulse}
+use Rattle.rule.specs.Letter.{early-or-kept, heard-letter, letter}
+use Rattle.rule.specs.Pulse.{tile-P, tile-pulse, tile-letter}
 use Rattle.columns.specs.Columns.{are-neighbours, columns-from, neighbours, is-predecessor, predecessors, links-before, place-in, link-place, link, table-from, any-of}
 use Rattle.columns.specs.Marks.{marked, mark-bytes, faulty-among}
 use Rattle.links.specs.Links.{bad-value, bad-link, bad-links}
 use Rattle.admission.specs.Call.{call}
 use Rattle.admission.specs.Refusal.{lengths-are, lengths-right, stray-mark, late-time, crowded, fast, row-tests, row-refusal}
-use Rattle.pulse.specs.Pulse.{arrives, arrival, read-at, stamp, pulse}
-use Rattle.row.specs.Row.{row-of}
+use Rattle.pulse.specs.Pulse.{arrives, arrival, read-at, stamp, pulse, letter-at}
+use Rattle.row.specs.Row.{row-of, letters-of}
 use Rattle.seam.specs.Seam.{half, halves, late, joined, seam-of}
 use Rattle.lines.specs.Number.{glyph, decimal-in, decimal, hexadecimal}
 use Rattle.lines.specs.Line.{side-word, t-line, halves-words, open-words, seam-head, seam-line, s-line, refused-line}
@@ -36,7 +37,7 @@ unfolding rows-shown start-shown shown settings-number start-number row-number r
 refusing = tt
 
 showing : Unit {0}
-unfolding refusing row-of pulse stamp arrival arrives read-at reads first-tick tile-pulse tile-P P heard-correction D least-to larger-at larger smaller natural stamp-of earliest latest earlier later step step-of neighbours wall-text texts-of text-of row-text each-below each-of right-neighbours tile-text seam-text t-line s-line seam-line seam-head halves-words open-words side-word refused-line decimal decimal-in hexadecimal glyph seam-of joined late halves half toBits round codes printed
+unfolding refusing row-of letters-of pulse letter-at stamp arrival arrives read-at reads first-tick tile-pulse tile-letter letter heard-letter early-or-kept tile-P P heard-correction D least-to larger-at larger smaller natural stamp-of earliest latest earlier later step step-of neighbours wall-text texts-of text-of row-text each-below each-of right-neighbours tile-text seam-text t-line s-line seam-line seam-head halves-words open-words side-word refused-line decimal decimal-in hexadecimal glyph seam-of joined late halves half toBits round codes printed
 showing = tt
 
 pub printed-whole : Printed-whole

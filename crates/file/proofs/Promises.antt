@@ -14,6 +14,7 @@ use Rattle.settings.proofs.Limits.{settings-plain}
 use Rattle.settings.proofs.Laws.AnyBelow.{none-below, none-till}
 use Rattle.settings.proofs.Laws.Cases.{by-equal}
 use Rattle.settings.proofs.Laws.Settings.{limits}
+use Rattle.row.specs.Row.{Pulses, pulses}
 use Rattle.runs.specs.Run.{rows}
 use Rattle.runs.specs.Reach.{One-fault}
 use Rattle.runs.proofs.Laws.Run.{run-of}
@@ -95,7 +96,7 @@ module _ (file : List ℕ) where
   shown-start p q = rw (eq-eqb (settings-number file) 0 p, ne-eqb start-at 0 q)
 
   shown-rows : settings-number file ≡ 0 → start-at ≡ 0 →
-      shown file ≡ rows-shown (settings-of file) (settings-of file .rows) 0 rows-place (start-of file) (after-start file)
+      shown file ≡ rows-shown (settings-of file) (settings-of file .rows) 0 rows-place (pulses (start-of file) []) (after-start file)
   unfolding shown start-shown settings-of after-settings start-of after-start
   shown-rows p q = rw (eq-eqb (settings-number file) 0 p, eq-eqb start-at 0 q)
 
@@ -152,7 +153,7 @@ unfolding Accepted-whole calls-of rows-of
 accepted-whole file k =
     let s = settings-of file in
     shown-rows file (settings-accepted file k) (start-accepted file k)
-    ∙ rows-accepted s (s .rows) 0 (rows-place file) (start-of file) (after-start file) (k .rows-keep) (first-row file k) (few-rows file k)
+    ∙ rows-accepted s (s .rows) 0 (rows-place file) (pulses (start-of file) []) (after-start file) (k .rows-keep) (first-row file k) (few-rows file k)
 
 pub others-refused : Others-refused
 unfolding Others-refused number-shown Field-plain
@@ -165,23 +166,23 @@ others-refused file e =
       settings-within = limits s (settings-kept file p q .1);
       start-there = field-plain 2 (8 * s .width) (after-settings file) .1 (start-kept file p q .0);
       start-early = early-kept file p q;
-      rows-keep = rows-kept s (s .rows) 0 (rows-place file) (start-of file) (after-start file) (rw (shown-rows file p q) at e) (first-grown file p q)
+      rows-keep = rows-kept s (s .rows) 0 (rows-place file) (pulses (start-of file) []) (after-start file) (rw (shown-rows file p q) at e) (first-grown file p q)
           (rows-few file p q);
     })
     (λ q. absurd (q (rw (shown-start file p q) at e))))
     (λ p. absurd (p (rw (shown-settings file p) at e)))
 
 -- the rows of a run are no refusal
-run-number : (s : Settings) (l : ℕ) (calls : List Call) (ts : List ℕ) (rs : List (List ℕ)) → number-shown (run-shown s l calls ts rs) ≡ 0
+run-number : (s : Settings) (l : ℕ) (calls : List Call) (r : Pulses) (rs : List (List ℕ)) → number-shown (run-shown s l calls r rs) ≡ 0
 unfolding run-shown number-shown
-run-number s l [] ts rs = number-alone s l (no-marks (s .width)) ts
-run-number s l (x ∷ xs) ts [] = refl
-run-number s l (x ∷ xs) ts (r ∷ rs) = number-after s l (x .marks) ts _ ∙ run-number s (suc l) xs r rs
+run-number s l [] r rs = number-alone s l (no-marks (s .width)) r
+run-number s l (x ∷ xs) r [] = refl
+run-number s l (x ∷ xs) r (ts ∷ rs) = number-after s l (x .marks) r _ ∙ run-number s (suc l) xs _ rs
 
 pub file-plain : File-plain
 unfolding File-plain Accepted-whole Others-refused
 file-plain file = (
-  λ k. ap number-shown (accepted-whole file k) ∙ run-number (settings-of file) 0 (calls-of file) (start-of file) (rows-of file),
+  λ k. ap number-shown (accepted-whole file k) ∙ run-number (settings-of file) 0 (calls-of file) (pulses (start-of file) []) (rows-of file),
   others-refused file,
 )
 
@@ -191,7 +192,7 @@ numbers-met file =
     by-equal (settings-number file) 0
     (λ p. by-equal (start-at file) 0
     (λ q. let s = settings-of file in
-    rw (shown-rows file p q) (rows-met s (s .rows) 0 (rows-place file) (start-of file) (after-start file) (first-grown file p q) (rows-few file p q)))
+    rw (shown-rows file p q) (rows-met s (s .rows) 0 (rows-place file) (pulses (start-of file) []) (after-start file) (first-grown file p q) (rows-few file p q)))
     (λ q. rw (shown-start file p q) (start-number-met (settings-of file) (after-settings file))))
     (λ p. rw (shown-settings file p) (settings-number-met file))
 
@@ -201,7 +202,7 @@ seams-answered file =
     by-equal (settings-number file) 0
     (λ p. by-equal (start-at file) 0
     (λ q. let s = settings-of file in
-    rw (shown-rows file p q) (rows-hold s (s .rows) 0 (rows-place file) (start-of file) (after-start file) (first-grown file p q) (rows-few file p q)))
+    rw (shown-rows file p q) (rows-hold s (s .rows) 0 (rows-place file) (pulses (start-of file) []) (after-start file) (first-grown file p q) (rows-few file p q)))
     (λ q. rw (shown-start file p q) (away-holds (start-at file) (3 + settings-size))))
     (λ p. rw (shown-settings file p) (away-holds (settings-number file) 0))
 

@@ -6,6 +6,7 @@ use Rattle.settings.specs.Limits.{Limits}
 use Rattle.settings.specs.declared.Settings.{Settings}
 use Rattle.admission.specs.Call.{Call}
 use Rattle.admission.specs.Limits.{Tile-limits}
+use Rattle.row.specs.Row.{Pulses, pulses, letters-of}
 use Rattle.runs.specs.Run.{rows}
 use Rattle.fields.specs.Field.{body}
 use Rattle.fields.specs.Limits.{Field-there}
@@ -62,8 +63,8 @@ pub record Keeps (file : List ℕ) : Type 0 where
   pub start-early : (c : ℕ) → c < settings-of file .width → getD (start-of file) c 0 ≤ 549755813887
   pub rows-keep : Rows-keep (settings-of file) (settings-of file .rows) (after-start file)
 
--- §10.1 the rows of a run, from row l on, each shown with the marks that come with the next, the last without
-unfoldable pub run-shown : Settings → (l : ℕ) → (calls : List Call) → (row : List ℕ) → (rest : List (List ℕ)) → List Shown
-run-shown s l [] ts rs = row-shown s l (no-marks (s .width)) ts
-run-shown s l (x ∷ xs) ts [] = []
-run-shown s l (x ∷ xs) ts (r ∷ rs) = row-shown s l (x .marks) ts ++ run-shown s (suc l) xs r rs
+-- §10.1 the rows of a run, from row l on, each shown with its letters and the marks that come with the next, the last without marks
+unfoldable pub run-shown : Settings → (l : ℕ) → (calls : List Call) → (row : Pulses) → (rest : List (List ℕ)) → List Shown
+run-shown s l [] r rs = row-shown s l (no-marks (s .width)) r
+run-shown s l (x ∷ xs) r [] = []
+run-shown s l (x ∷ xs) r (ts ∷ rs) = row-shown s l (x .marks) r ++ run-shown s (suc l) xs (pulses ts (letters-of s (r .times) x)) rs

@@ -10,6 +10,7 @@ use lib.Dec.{leb, eqb}
 use lib.ListN.{length, getD}
 use Rattle.columns.specs.Columns.{are-neighbours, any-of}
 use Rattle.columns.specs.Marks.{marked}
+use Rattle.row.specs.Row.{Pulses, pulses}
 use Rattle.runs.specs.Run.{accepted-calls}
 use Rattle.runs.specs.Reach.{Alike, Two-runs, Reach}
 use Rattle.seam.specs.Seam.{seam-of, number-of, side-of}
@@ -22,13 +23,13 @@ use Rattle.stages.specs.declared.Wall.the-variants.{New}
 
 -- §17.3 running the steps over any bytes, whatever the row held, shows what the definition of the whole shows, and 1,027 steps are enough
 unfoldable pub Steps-right : Type 0
-Steps-right = (n : ℕ) (row file : List ℕ) → 1026 < n → steps-shown n New row file ≡ shown file
+Steps-right = (n : ℕ) (row : Pulses) (file : List ℕ) → 1026 < n → steps-shown n New row file ≡ shown file
 
 -- §12.1 a wall within all limits is accepted, and the rows of its run are shown
 unfoldable pub Accepted-whole : Type 0
 Accepted-whole =
     (file : List ℕ) → Keeps file →
-    shown file ≡ run-shown (settings-of file) 0 (calls-of file) (start-of file) (rows-of file)
+    shown file ≡ run-shown (settings-of file) 0 (calls-of file) (pulses (start-of file) []) (rows-of file)
 
 -- §12.1 any other is turned away: a file that isn't keeps every limit
 unfoldable pub Others-refused : Type 0
@@ -48,9 +49,9 @@ Numbers-met = (file : List ℕ) → in-a-file (number-shown (shown file)) ≡ tr
 
 -- §10.3 what holds of each seam of a row that is shown: it is not turned away with 31, and it is not `open both`
 unfoldable pub Seams-hold : Shown → Type 0
-Seams-hold (lines w l ms ts) =
+Seams-hold (lines w l ms r) =
     (a b : ℕ) → a < w → b < w → are-neighbours w a b ≡ true →
-    let seam = seam-of (getD ts a 0) (marked ms a) (getD ts b 0) (marked ms b) in
+    let seam = seam-of (getD (r .times) a 0) (marked ms a) (getD (r .times) b 0) (marked ms b) in
     (number-of seam ≡ 0) × (side-of seam ≡ some Both → ⊥)
 Seams-hold (turned-away n at) = Unit {0}
 

@@ -3,6 +3,7 @@ use mathlib.Core.Path.{_≡_}
 use mathlib.Core.List.{List}
 use Prim.Native.Nat.{ℕ, _+_, _*_, _-_, _≤_, _<_}
 use Rattle.settings.specs.Settings.{settings-refusal}
+use Rattle.row.specs.Row.{Pulses}
 use Rattle.stages.specs.Fit.{due-of}
 use Rattle.stages.specs.declared.Place.{Place}
 use Rattle.stages.specs.declared.Wall.{Wall}
@@ -34,5 +35,5 @@ steps-left Over = 0
 -- §17.3 a step with something due leaves such a wall again, and fewer steps
 unfoldable pub Steps-fewer : Type 0
 Steps-fewer =
-    (x : Wall) (row part : List ℕ) → Stands x → (due-of x ≡ 0 → ⊥) →
+    (x : Wall) (row : Pulses) (part : List ℕ) → Stands x → (due-of x ≡ 0 → ⊥) →
     Stands (step-of x row part .next) × (steps-left (step-of x row part .next) < steps-left x)

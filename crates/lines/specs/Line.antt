@@ -40,9 +40,10 @@ side-word Left = 108 ∷ 101 ∷ 102 ∷ 116 ∷ []
 side-word Right = 114 ∷ 105 ∷ 103 ∷ 104 ∷ 116 ∷ []
 side-word Both = 98 ∷ 111 ∷ 116 ∷ 104 ∷ []
 
--- §10.2 the line of a tile
-unfoldable pub t-line : (row column : ℕ) → (faulty : Bool) → (time : ℕ) → List ℕ
-t-line l c f t = (116 ∷ space ∷ decimal l) ++ (space ∷ decimal c) ++ (space ∷ cond f dash (decimal t)) ++ (line-end ∷ [])
+-- §10.2 the line of a tile, with its letter (§E3.5) where it is correct
+unfoldable pub t-line : (row column : ℕ) → (faulty : Bool) → (time letter : ℕ) → List ℕ
+t-line l c f t x =
+    (116 ∷ space ∷ decimal l) ++ (space ∷ decimal c) ++ (space ∷ cond f dash (decimal t ++ (space ∷ x ∷ []))) ++ (line-end ∷ [])
 
 -- §10.3 what a closed seam's line ends with: the bits of its midpoint, then of its half gap
 unfoldable pub halves-words : Halves → List ℕ

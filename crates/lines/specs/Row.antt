@@ -23,23 +23,23 @@ each-of (k ∷ ks) f = f k ++ each-of ks f
 unfoldable pub right-neighbours : (w a : ℕ) → List ℕ
 right-neighbours w a = columns-from w 0 (λ b. ltb a b && are-neighbours w a b)
 
--- §10.2 a tile's line, by the marks and the times of its row
-unfoldable pub tile-text : (row : ℕ) → (marks times : List ℕ) → (column : ℕ) → List ℕ
-tile-text l ms ts c = t-line l c (marked ms c) (getD ts c 0)
+-- §10.2 a tile's line, by the marks, the times and the letters of its row
+unfoldable pub tile-text : (row : ℕ) → (marks times letters : List ℕ) → (column : ℕ) → List ℕ
+tile-text l ms ts ls c = t-line l c (marked ms c) (getD ts c 0) (getD ls c 0)
 
 -- §10.3 a seam's line, by the marks and the times of its row
 unfoldable pub seam-text : (row : ℕ) → (marks times : List ℕ) → (left right : ℕ) → List ℕ
 seam-text l ms ts a b = s-line l a b (seam-of (getD ts a 0) (marked ms a) (getD ts b 0) (marked ms b))
 
 -- §10.3 the lines of a row: all tiles, then all seams, for each left column its right ones
-unfoldable pub row-text : (w row : ℕ) → (marks times : List ℕ) → List ℕ
-row-text w l ms ts =
-    each-below w (tile-text l ms ts) ++ each-below w (λ a. each-of (right-neighbours w a) (seam-text l ms ts a))
+unfoldable pub row-text : (w row : ℕ) → (marks times letters : List ℕ) → List ℕ
+row-text w l ms ts ls =
+    each-below w (tile-text l ms ts ls) ++ each-below w (λ a. each-of (right-neighbours w a) (seam-text l ms ts a))
 
--- §10.3 room that is enough for the lines of a row: 32 bytes a tile and 64 a seam, of which there are W + 1
+-- §10.3 room that is enough for the lines of a row: 34 bytes a tile and 64 a seam, of which there are W + 1
 unfoldable pub row-room : (w : ℕ) → ℕ
-row-room w = 96 * w + 64
+row-room w = 98 * w + 64
 
 -- §10.3 room for the text of any step: the lines of a row of 256 tiles
 abbrev pub step-room : ℕ
-step-room = 24640
+step-room = 25152

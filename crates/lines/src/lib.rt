@@ -9,7 +9,7 @@ ghost use Rattle.lines.specs.Line.{space, refused-line};
 ghost use Rattle.columns.specs.Wrote.{Wrote};
 
 // Room for the text of any step.
-pub const ROOM: usize = 24_640;
+pub const ROOM: usize = 25_152;
 
 pub fn byte(b: u8, out: &mut [u8], at: usize) -> usize
     requires { ⌜ at + 1 ≤ length (now out) ⌝ }

@@ -8,5 +8,5 @@ use Rattle.places.proofs.Laws.Seams.{in-order}
 
 pub seams-in-order : Seams-in-order
 unfolding Seams-in-order row-text
-seams-in-order w l ms ts wide =
-    ap (λ (t : List ℕ). each-below w (tile-text l ms ts) ++ t) (in-order w wide (seam-text l ms ts))
+seams-in-order w l ms ts ls wide =
+    ap (λ (t : List ℕ). each-below w (tile-text l ms ts ls) ++ t) (in-order w wide (seam-text l ms ts))

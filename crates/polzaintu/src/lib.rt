@@ -11,7 +11,7 @@ ghost use lib.ListN.{length, replicate, getD};
 ghost use Rattle.settings.specs.Settings.{settings-refusal};
 ghost use Rattle.tile.specs.Tile.{forwarded, number-of as Tile·number-of};
 ghost use Rattle.admission.specs.Call.{call};
-ghost use Rattle.row.specs.Row.{planned, written, number-of as Row·number-of};
+ghost use Rattle.row.specs.Row.{pulses, planned, written, lettered, number-of as Row·number-of};
 ghost use Rattle.seam.specs.Seam.{seam-of, number-of as Seam·number-of};
 ghost use Rattle.reach.specs.Search.{gap-of, reach-of, reach-in-row};
 ghost use Rattle.reach.specs.Survey.{surveyed-of};
@@ -38,7 +38,7 @@ pub extern "C" fn polzaintu_settings_refusal(settings: &[u64; 7]) -> u32
 pub extern "C" fn polzaintu_tile(
     settings: &[u64; 7],
     stamps: &[u64; 5],
-    answer: &mut [i64; 3],
+    answer: &mut [i64; 4],
 ) -> u32
     ensures number { λ r. ⌜ r ≡ Tile·number-of (forwarded (settings-from 0 (now (settings .entry))) (stamps-in (now (stamps .entry)))) ⌝ }
     ensures answer { λ r. ⌜ now (answer .exit) ≡ forwarded-left (forwarded (settings-from 0 (now (settings .entry))) (stamps-in (now (stamps .entry)))) (now (answer .entry)) ⌝ }
@@ -57,14 +57,24 @@ pub extern "C" fn polzaintu_row(
     drifts: &[u32],
     links: &[u64],
     times: &mut [u64],
+    letters: &mut [u8],
     ends: &mut [u64; 2],
 ) -> u32
-    ensures number { λ r. ⌜ r ≡ Row·number-of (planned (settings-from 0 (now (settings .entry))) (now (before .entry)) (call (now (marks .entry)) (now (drifts .entry)) (now (links .entry)) (length (now (times .entry))))) ⌝ }
-    ensures times { λ r. ⌜ now (times .exit) ≡ written (settings-from 0 (now (settings .entry))) (now (before .entry)) (call (now (marks .entry)) (now (drifts .entry)) (now (links .entry)) (length (now (times .entry)))) (now (times .entry)) ⌝ }
-    ensures ends { λ r. ⌜ now (ends .exit) ≡ ends-left (planned (settings-from 0 (now (settings .entry))) (now (before .entry)) (call (now (marks .entry)) (now (drifts .entry)) (now (links .entry)) (length (now (times .entry))))) (now (ends .entry)) ⌝ }
+    ensures number { λ r. ⌜ r ≡ Row·number-of (planned (settings-from 0 (now (settings .entry))) (now (before .entry)) (call (now (marks .entry)) (now (drifts .entry)) (now (links .entry)) (length (now (times .entry))) (length (now (letters .entry))))) ⌝ }
+    ensures times { λ r. ⌜ now (times .exit) ≡ written (settings-from 0 (now (settings .entry))) (now (before .entry)) (call (now (marks .entry)) (now (drifts .entry)) (now (links .entry)) (length (now (times .entry))) (length (now (letters .entry)))) (now (times .entry)) ⌝ }
+    ensures letters { λ r. ⌜ now (letters .exit) ≡ lettered (settings-from 0 (now (settings .entry))) (now (before .entry)) (call (now (marks .entry)) (now (drifts .entry)) (now (links .entry)) (length (now (times .entry))) (length (now (letters .entry)))) (now (letters .entry)) ⌝ }
+    ensures ends { λ r. ⌜ now (ends .exit) ≡ ends-left (planned (settings-from 0 (now (settings .entry))) (now (before .entry)) (call (now (marks .entry)) (now (drifts .entry)) (now (links .entry)) (length (now (times .entry))) (length (now (letters .entry))))) (now (ends .entry)) ⌝ }
 {
     calls::ends_left(
-        row::plan(settings_in(settings), before, marks, drifts, links, times),
+        row::plan(
+            settings_in(settings),
+            before,
+            marks,
+            drifts,
+            links,
+            times,
+            letters,
+        ),
         ends,
     )
 }
@@ -251,14 +261,15 @@ pub extern "C" fn polzaintu_wall_step(
     part: &[u8],
     row: &[u64],
     next: &mut [u64],
+    letters: &mut [u8],
     offset: &mut u64,
 ) -> u32
-    ensures number { λ r. ⌜ r ≡ step-number (step-answer (now (wall .entry)) (now (part .entry)) (now (row .entry)) (length (now (next .entry)))) ⌝ }
-    ensures wall { λ r. ⌜ now (wall .exit) ≡ wall-left (step-answer (now (wall .entry)) (now (part .entry)) (now (row .entry)) (length (now (next .entry)))) (now (wall .entry)) ⌝ }
-    ensures next { λ r. ⌜ now (next .exit) ≡ next-left (now (wall .entry)) (now (part .entry)) (now (row .entry)) (now (next .entry)) ⌝ }
-    ensures offset { λ r. ⌜ now (offset .exit) ≡ offset-left (step-answer (now (wall .entry)) (now (part .entry)) (now (row .entry)) (length (now (next .entry)))) (now (offset .entry)) ⌝ }
+    ensures number { λ r. ⌜ r ≡ step-number (step-answer (now (wall .entry)) (now (part .entry)) (now (row .entry)) (pulses (now (next .entry)) (now (letters .entry)))) ⌝ }
+    ensures wall { λ r. ⌜ now (wall .exit) ≡ wall-left (step-answer (now (wall .entry)) (now (part .entry)) (now (row .entry)) (pulses (now (next .entry)) (now (letters .entry)))) (now (wall .entry)) ⌝ }
+    ensures next { λ r. ⌜ pulses (now (next .exit)) (now (letters .exit)) ≡ next-left (now (wall .entry)) (now (part .entry)) (now (row .entry)) (pulses (now (next .entry)) (now (letters .entry))) ⌝ }
+    ensures offset { λ r. ⌜ now (offset .exit) ≡ offset-left (step-answer (now (wall .entry)) (now (part .entry)) (now (row .entry)) (pulses (now (next .entry)) (now (letters .entry)))) (now (offset .entry)) ⌝ }
 {
-    wall_calls::step(wall, part, row, next, offset)
+    wall_calls::step(wall, part, row, next, letters, offset)
 }
 
 // Begins the last n waves of a seam.
@@ -305,7 +316,7 @@ pub extern "C" fn polzaintu_waves_ask(
 // The version as one number.
 #[no_mangle]
 pub extern "C" fn polzaintu_version() -> u32
-    ensures { λ r. ⌜ r ≡ 3000 ⌝ }
+    ensures { λ r. ⌜ r ≡ 4000 ⌝ }
 {
     version::NUMBER
 }

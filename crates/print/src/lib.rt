@@ -11,6 +11,7 @@ ghost use lib.ListN.{length};
 ghost use Rattle.tables.specs.Word.{Tables};
 ghost use Rattle.lines.specs.Row.{step-room};
 ghost use Rattle.stream.specs.State.{Between, Advanced, Ends, Comes-to};
+ghost use Rattle.row.specs.Row.{pulses};
 ghost use Rattle.print.specs.Lines.{lines-step};
 
 // Reads from one descriptor and writes to the other, some 64 KB a call.
@@ -20,6 +21,7 @@ pub fn run(from: i32, to: i32) -> Outcome
     let mut input = io::large_buffer();
     let mut output = io::large_buffer();
     let mut row = [0u64; 256];
+    let mut letters = [0u8; 256];
     let mut tables = tables::space();
     tables::fill(&mut tables);
     let mut links = row_fields::link_space();
@@ -30,6 +32,7 @@ pub fn run(from: i32, to: i32) -> Outcome
         &mut links,
         &mut input,
         &mut row,
+        &mut letters,
         &mut output,
     )
 }
@@ -42,10 +45,11 @@ fn run_in(
     links: &mut [u64],
     input: &mut [u8],
     row: &mut [u64],
+    letters: &mut [u8],
     output: &mut [u8],
 ) -> Outcome
-    requires { ⌜ Tables (now tables) × (770 ≤ length (now links)) × (6710 ≤ length (now input)) × (256 ≤ length (now row)) × (step-room ≤ length (now output)) ⌝ }
-    ensures { λ r. ⌜ Ends lines-step tt r tt (now (row .exit)) (now (output .exit)) ⌝ }
+    requires { ⌜ Tables (now tables) × (770 ≤ length (now links)) × (6710 ≤ length (now input)) × (256 ≤ length (now row)) × (256 ≤ length (now letters)) × (step-room ≤ length (now output)) ⌝ }
+    ensures { λ r. ⌜ Ends lines-step tt r tt (pulses (now (row .exit)) (now (letters .exit))) (now (output .exit)) ⌝ }
 {
     let mut state = State::start();
     loop {
@@ -55,7 +59,7 @@ fn run_in(
         }
         match ready(from, to, state, due, input, output) {
             Turn::On(next) => {
-                state = advance(tables, links, next, input, row, output);
+                state = advance(tables, links, next, input, row, letters, output);
             }
             Turn::Stop(ended) => {
                 return Outcome { ended, state };
@@ -71,10 +75,11 @@ fn advance(
     state: State,
     input: &[u8],
     row: &mut [u64],
+    letters: &mut [u8],
     output: &mut [u8],
 ) -> State
-    requires { ⌜ Tables (now tables) × (770 ≤ length (now links)) × Between state (length (now input)) (length (now output)) × (256 ≤ length (now row)) × (state .text + step-room ≤ length (now output)) ⌝ }
-    ensures { λ r. ⌜ Advanced lines-step state tt (now (input .entry)) (now (row .entry)) (now (output .entry)) r tt (now (row .exit)) (now (output .exit)) ⌝ }
+    requires { ⌜ Tables (now tables) × (770 ≤ length (now links)) × Between state (length (now input)) (length (now output)) × (256 ≤ length (now row)) × (256 ≤ length (now letters)) × (state .text + step-room ≤ length (now output)) ⌝ }
+    ensures { λ r. ⌜ Advanced lines-step state tt (now (input .entry)) (pulses (now (row .entry)) (now (letters .entry))) (now (output .entry)) r tt (pulses (now (row .exit)) (now (letters .exit))) (now (output .exit)) ⌝ }
 {
     let wall = state.wall;
     let window = state.window;
@@ -87,6 +92,7 @@ fn advance(
         links,
         &input[start..stop],
         &mut row[..width],
+        &mut letters[..width],
         output,
         state.text,
     ) {

@@ -5,15 +5,20 @@ use mathlib.Core.List.{List, [], _∷_}
 use Prim.Native.Nat.{ℕ}
 use lib.ListN.{replicate, set}
 use Rattle.settings.specs.Settings.{settings}
+use Rattle.rule.specs.Letter.{byte-of}
 use Rattle.settings.specs.declared.Settings.{Settings}
 use Rattle.columns.specs.Columns.{table-from}
 use Rattle.admission.specs.Call.{call}
 use Rattle.admission.specs.Cases.{wall, times, time, drifts, drift, delays, marks}
-use Rattle.pulse.specs.Pulse.{pulse}
+use Rattle.pulse.specs.Pulse.{pulse, letter-at}
 
 -- §7.6 the pulses of tiles 0 to 5
 unfoldable pub pulses : Settings → (before marks drifts links : List ℕ) → List ℕ
-pulses s ts ms ds ls = table-from 6 0 (pulse s ts (call ms ds ls 6))
+pulses s ts ms ds ls = table-from 6 0 (pulse s ts (call ms ds ls 6 6))
+
+-- §E3.4 their letters, as bytes
+unfoldable pub letters : Settings → (before marks drifts links : List ℕ) → List ℕ
+letters s ts ms ds ls = table-from 6 0 (λ c. byte-of (letter-at s ts (call ms ds ls 6 6) c))
 
 -- §1.4 column 3 is broken: what it sends to tiles 2, 3, 4 and 5
 unfoldable pub sent : (a b c d : ℕ) → List ℕ
@@ -31,6 +36,17 @@ Broken-met =
     × (pulses wall times (marks 8) drifts (sent 1300 1300 1300 1300) ≡ 1500 ∷ 1500 ∷ 1500 ∷ 1536 ∷ 1500 ∷ 1500 ∷ [])
     × (pulses wall times (marks 8) drifts (sent silent silent silent silent) ≡ 1500 ∷ 1500 ∷ 1500 ∷ 1536 ∷ 1500 ∷ 1500 ∷ [])
     × (pulses wall times (marks 8) drifts (sent 1000 silent 1300 1100) ≡ 1500 ∷ 1500 ∷ 1476 ∷ 1536 ∷ 1500 ∷ 1500 ∷ [])
+
+-- §E3.4 the letters of the printed wall, and of that broken tile: k, k, k, l, k, k; where it is early k, k, b, e, b, b; where its links differ
+-- k, k, b, l, k, k
+unfoldable pub Letters-met : Type 0
+Letters-met =
+    let silent : ℕ = 18446744073709551615 in
+    (letters wall (time 3 1080) (marks 0) drifts delays ≡ 107 ∷ 107 ∷ 107 ∷ 108 ∷ 107 ∷ 107 ∷ [])
+    × (letters wall times (marks 8) drifts (sent 1000 1000 1000 1000) ≡ 107 ∷ 107 ∷ 98 ∷ 101 ∷ 98 ∷ 98 ∷ [])
+    × (letters wall times (marks 8) drifts (sent 1300 1300 1300 1300) ≡ 107 ∷ 107 ∷ 107 ∷ 108 ∷ 107 ∷ 107 ∷ [])
+    × (letters wall times (marks 8) drifts (sent silent silent silent silent) ≡ 107 ∷ 107 ∷ 107 ∷ 108 ∷ 107 ∷ 107 ∷ [])
+    × (letters wall times (marks 8) drifts (sent 1000 silent 1300 1100) ≡ 107 ∷ 107 ∷ 98 ∷ 108 ∷ 107 ∷ 107 ∷ [])
 
 -- §3.2 its time is not read: its value is its arrival
 unfoldable pub Unread-met : Type 0

@@ -1,13 +1,14 @@
 -- The code's own: what it asks and works out for a tile away from the ends whose predecessors are correct. `plain-pulse` of
--- proofs/Laws/Plain.antt shows that to be the tile's pulse. Assumes nothing.
+-- proofs/Laws/Plain.antt shows that to be the tile's pulse and letter. Assumes nothing.
 use mathlib.Core.List.{List}
 use Prim.Native.Nat.{ℕ, _+_, _-_, _*_, _≤_, _<_, min, max}
 use lib.ListN.{length, getD}
-use Rattle.rule.specs.Clock.{reads, first-tick}
-use Rattle.rule.specs.Stamp.{stamp-of}
-use Rattle.rule.specs.Closed.{closed-P, Forwardable}
+use Rattle.rule.specs.Clock.{reads}
+use Rattle.rule.specs.Closed.{Forwardable}
 use Rattle.settings.specs.declared.Settings.{Settings}
 use Rattle.links.specs.Links.{latest-time}
+use Rattle.pulse.specs.Pulsed.{pulsed}
+use Rattle.pulse.specs.declared.Pulsed.{Pulsed}
 
 -- §3.2 what the code asks of a correct sender's link before it reads it
 pub record Receivable (drift : ℕ) (before links : List ℕ) (sender place : ℕ) : Type 0 where
@@ -45,6 +46,6 @@ module _ (s : Settings) (step drift : ℕ) (before links : List ℕ) (c : ℕ) w
     pub ready : Forwardable (s .unit) step from-own (min from-left from-right) (max from-left from-right)
     pub held : s .hold ≤ 1000000
 
-  -- §3.4 its pulse, by the closed form of P
-  unfoldable pub correct-pulse : ℕ
-  correct-pulse = first-tick drift 0 (closed-P (s .unit) step (stamp-of from-own) (stamp-of (min from-left from-right)) (stamp-of (max from-left from-right)) + s .hold)
+  -- §3.4 its pulse, and its letter
+  unfoldable pub correct-pulse : Pulsed
+  correct-pulse = pulsed s step drift from-own (min from-left from-right) (max from-left from-right)

@@ -1,15 +1,17 @@
--- What arrives at a tile, how it is stamped, and the tile's pulse. Assumes nothing.
+-- What arrives at a tile, how it is stamped, the tile's pulse and its letter. Assumes nothing.
 use mathlib.Core.Bool.{Bool, cond}
 use mathlib.Core.List.{List, map}
 use Prim.Native.Nat.{ℕ, _+_}
 use lib.ListN.{getD}
 use Rattle.rule.specs.Clock.{reads}
 use Rattle.rule.specs.Stamp.{Stamp, heard, silent, stamp-of}
-use Rattle.rule.specs.Pulse.{tile-pulse}
+use Rattle.rule.specs.Pulse.{tile-pulse, tile-letter}
+use Rattle.rule.specs.declared.letter.Letter.{Letter}
 use Rattle.settings.specs.declared.Settings.{Settings}
 use Rattle.columns.specs.Columns.{neighbours, link}
 use Rattle.admission.specs.Call.{Call}
 use Rattle.columns.specs.Marks.{marked}
+use Rattle.pulse.specs.declared.Pulsed.{Pulsed}
 
 -- §3.2 the arrival that a link value tells: the sender's time plus the delay, or from a faulty sender the value itself
 unfoldable pub arrives : (faulty : Bool) → (time value : ℕ) → Stamp
@@ -33,3 +35,13 @@ unfoldable pub pulse : Settings → (before : List ℕ) → Call → (tile : ℕ
 pulse s ts x c =
     let w = s .width in
     tile-pulse s (getD (x .drifts) c 0) 0 (stamp w ts x c c) (map (stamp w ts x c) (neighbours w c))
+
+-- §E3.4 the letter of a tile, by the same stamps
+unfoldable pub letter-at : Settings → (before : List ℕ) → Call → (tile : ℕ) → Letter
+letter-at s ts x c =
+    let w = s .width in
+    tile-letter s (stamp w ts x c c) (map (stamp w ts x c) (neighbours w c))
+
+-- §E3.4 both together
+abbrev pub pulsed-at : Settings → (before : List ℕ) → Call → (tile : ℕ) → Pulsed
+pulsed-at s ts x c = record { time = pulse s ts x c; letter = letter-at s ts x c }

@@ -2,18 +2,19 @@
 use mathlib.Core.Path.{_≡_}
 use mathlib.Core.Bool.{Bool, true, false}
 use mathlib.Core.List.{List, [], _∷_, map}
+use mathlib.Core.Option.{some}
 use Prim.Native.Nat.{ℕ, _+_, _<_}
 use lib.IntN.{ℤ, pos}
 use lib.ListN.{length, getD}
 use Rattle.rule.specs.Clock.{first-tick}
 use Rattle.rule.specs.Stamp.{Stamp, heard, silent}
-use Rattle.tile.specs.Tile.{own-stamp, neighbour-stamps, tile-refusal}
+use Rattle.tile.specs.Tile.{own-stamp, neighbour-stamps, tile-refusal, forwarded, letter-of}
 use Rattle.rule.specs.Pulse.{tile-P}
 use Rattle.settings.specs.declared.Settings.{Settings}
 use Rattle.tile.specs.declared.Stamps.{Stamps}
 use Rattle.columns.specs.Columns.{neighbours}
 use Rattle.admission.specs.Call.{Call}
-use Rattle.pulse.specs.Pulse.{stamp, pulse}
+use Rattle.pulse.specs.Pulse.{stamp, pulse, letter-at}
 use Rattle.admission.specs.Refusal.{row-refusal}
 
 -- §6.1 a stamp's reading, as its place holds it
@@ -42,9 +43,10 @@ stamps-of own ns =
 unfoldable pub tile-stamps : Settings → (before : List ℕ) → Call → (tile : ℕ) → Stamps
 tile-stamps s ts x c = stamps-of (stamp (s .width) ts x c c) (map (stamp (s .width) ts x c) (neighbours (s .width) c))
 
--- §7.6 in an accepted row no tile is 11, 12 or 13, and the row's pulse is the tile's
+-- §7.6 in an accepted row no tile is 11, 12 or 13, and the row's pulse is the tile's; §E3.4 so is its letter
 unfoldable pub Tiles-accepted : Type 0
 Tiles-accepted =
     (s : Settings) (ts : List ℕ) (x : Call) (c : ℕ) → row-refusal s ts x ≡ 0 → c < s .width →
     let st = tile-stamps s ts x c in
     (tile-refusal s st ≡ 0) × (pulse s ts x c ≡ first-tick (getD (x .drifts) c 0) 0 (tile-P s (own-stamp st) (neighbour-stamps st) + s .hold))
+    × (letter-of (forwarded s st) ≡ some (letter-at s ts x c))

@@ -1,4 +1,4 @@
-// The pulse of one tile of an accepted row.
+// The pulse of one tile of an accepted row, and the letter of what fixed it.
 use columns::first_link;
 use columns::first_sender;
 use columns::four_senders;
@@ -6,21 +6,26 @@ use columns::marked;
 use rule::clock;
 use rule::forwarding;
 use rule::forwarding::SILENT;
+use rule::letter::Letter;
 use settings::Settings;
 use settings::rounding::larger;
 use settings::rounding::smaller;
 ghost use mathlib.Core.Path.{_≡_};
 ghost use Prim.Native.Nat.{_+_, _≤_, _<_, min, max};
-ghost use Rattle.rule.specs.Clock.{first-tick};
 ghost use Rattle.settings.specs.Settings.{step-of};
-ghost use Rattle.rule.specs.Stamp.{stamp-of};
-ghost use Rattle.rule.specs.Closed.{closed-P, Forwardable};
+ghost use Rattle.rule.specs.Closed.{Forwardable};
 ghost use Rattle.admission.specs.Call.{call};
-ghost use Rattle.pulse.specs.Pulse.{pulse};
+ghost use Rattle.pulse.specs.Pulse.{pulsed-at};
 ghost use Rattle.admission.specs.Refusal.{row-refusal};
 ghost use Rattle.pulse.specs.Stampable.{Stampable, stamped};
 ghost use Rattle.pulse.specs.Arranged.{arranged};
+ghost use Rattle.pulse.specs.Pulsed.{pulsed};
 ghost use Rattle.pulse.specs.Plain.{Receivable, Correct, received, correct-pulse};
+
+pub struct Pulsed {
+    pub time: u64,
+    pub letter: Letter,
+}
 
 // By the window of the tile's predecessors, three or four.
 pub fn pulse(
@@ -31,9 +36,9 @@ pub fn pulse(
     drifts: &[u32],
     links: &[u64],
     c: usize,
-) -> u64
-    requires { ⌜ (row-refusal settings (now before) (call (now marks) (now drifts) (now links) (settings .width)) ≡ 0) × (step ≡ step-of settings) × (c < settings .width) ⌝ }
-    ensures { λ r. ⌜ r ≡ pulse settings (now (before .entry)) (call (now (marks .entry)) (now (drifts .entry)) (now (links .entry)) (settings .width)) c ⌝ }
+) -> Pulsed
+    requires { ⌜ (row-refusal settings (now before) (call (now marks) (now drifts) (now links) (settings .width) (settings .width)) ≡ 0) × (step ≡ step-of settings) × (c < settings .width) ⌝ }
+    ensures { λ r. ⌜ r ≡ pulsed-at settings (now (before .entry)) (call (now (marks .entry)) (now (drifts .entry)) (now (links .entry)) (settings .width) (settings .width)) c ⌝ }
 {
     let width = settings.width as usize;
     let drift = drifts[c] as u64;
@@ -59,10 +64,10 @@ fn among_three(
     x: u64,
     y: u64,
     z: u64,
-) -> u64
+) -> Pulsed
     requires { ⌜ arranged place (λ own a b. Forwardable (settings .unit) step own (min a b) (max a b)) x y z ⌝ }
     requires { ⌜ (drift ≤ 10000) × (settings .hold ≤ 1000000) ⌝ }
-    ensures { λ r. ⌜ r ≡ arranged place (λ own a b. first-tick drift 0 (closed-P (settings .unit) step (stamp-of own) (stamp-of (min a b)) (stamp-of (max a b)) + settings .hold)) x y z ⌝ }
+    ensures { λ r. ⌜ r ≡ arranged place (λ own a b. pulsed settings step drift own (min a b) (max a b)) x y z ⌝ }
 {
     if place == 0 {
         return of_two(settings, step, drift, x, y, z);
@@ -83,11 +88,11 @@ fn among_four(
     y: u64,
     z: u64,
     d: u64,
-) -> u64
+) -> Pulsed
     requires { ⌜ arranged place (λ own a b. Forwardable (settings .unit) step own (min (min a b) d) (max (max a b) d)) x y z ⌝ }
     requires { ⌜ (drift ≤ 10000) × (settings .hold ≤ 1000000) ⌝ }
     requires { ⌜ 0 < place ⌝ }
-    ensures { λ r. ⌜ r ≡ arranged place (λ own a b. first-tick drift 0 (closed-P (settings .unit) step (stamp-of own) (stamp-of (min (min a b) d)) (stamp-of (max (max a b) d)) + settings .hold)) x y z ⌝ }
+    ensures { λ r. ⌜ r ≡ arranged place (λ own a b. pulsed settings step drift own (min (min a b) d) (max (max a b) d)) x y z ⌝ }
 {
     if place == 1 {
         return of_three(settings, step, drift, y, x, z, d);
@@ -137,7 +142,7 @@ pub fn correct(
     before: &[u64],
     links: &[u64],
     c: usize,
-) -> u64
+) -> Pulsed
     requires { ⌜ Correct settings step drift (now before) (now links) c ⌝ }
     ensures { λ r. ⌜ r ≡ correct-pulse settings step drift (now (before .entry)) (now (links .entry)) c ⌝ }
 {
@@ -149,27 +154,36 @@ pub fn correct(
 }
 
 // The pulse of a tile with two neighbours.
-fn of_two(settings: Settings, step: u64, drift: u64, own: u64, a: u64, b: u64) -> u64
+fn of_two(settings: Settings, step: u64, drift: u64, own: u64, a: u64, b: u64) -> Pulsed
     requires { ⌜ Forwardable (settings .unit) step own (min a b) (max a b) ⌝ }
     requires { ⌜ (drift ≤ 10000) × (settings .hold ≤ 1000000) ⌝ }
-    ensures { λ r. ⌜ r ≡ first-tick drift 0 (closed-P (settings .unit) step (stamp-of own) (stamp-of (min a b)) (stamp-of (max a b)) + settings .hold) ⌝ }
+    ensures { λ r. ⌜ r ≡ pulsed settings step drift own (min a b) (max a b) ⌝ }
 {
-    let p = forwarding::adopted(settings.unit, step, own, smaller(a, b), larger(a, b));
-    clock::first_tick(drift, p + settings.hold)
+    by_ends(settings, step, drift, own, smaller(a, b), larger(a, b))
 }
 
 // The pulse of a tile with three.
-fn of_three(settings: Settings, step: u64, drift: u64, own: u64, a: u64, b: u64, d: u64) -> u64
+fn of_three(settings: Settings, step: u64, drift: u64, own: u64, a: u64, b: u64, d: u64) -> Pulsed
     requires { ⌜ Forwardable (settings .unit) step own (min (min a b) d) (max (max a b) d) ⌝ }
     requires { ⌜ (drift ≤ 10000) × (settings .hold ≤ 1000000) ⌝ }
-    ensures { λ r. ⌜ r ≡ first-tick drift 0 (closed-P (settings .unit) step (stamp-of own) (stamp-of (min (min a b) d)) (stamp-of (max (max a b) d)) + settings .hold) ⌝ }
+    ensures { λ r. ⌜ r ≡ pulsed settings step drift own (min (min a b) d) (max (max a b) d) ⌝ }
 {
-    let p = forwarding::adopted(
-        settings.unit,
-        step,
-        own,
-        smaller(smaller(a, b), d),
-        larger(larger(a, b), d),
-    );
-    clock::first_tick(drift, p + settings.hold)
+    let least = smaller(smaller(a, b), d);
+    let most = larger(larger(a, b), d);
+    by_ends(settings, step, drift, own, least, most)
+}
+
+// By own's stamp and the earliest and latest of the neighbours'.
+fn by_ends(settings: Settings, step: u64, drift: u64, own: u64, least: u64, most: u64) -> Pulsed
+    requires { ⌜ Forwardable (settings .unit) step own least most ⌝ }
+    requires { ⌜ (drift ≤ 10000) × (settings .hold ≤ 1000000) ⌝ }
+    ensures { λ r. ⌜ r ≡ pulsed settings step drift own least most ⌝ }
+{
+    let fixed = forwarding::adopted(settings.unit, step, own, least, most);
+    let letter = fixed.letter;
+    let read = fixed.p + settings.hold;
+    Pulsed {
+        time: clock::first_tick(drift, read),
+        letter,
+    }
 }

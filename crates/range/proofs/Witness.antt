@@ -54,12 +54,12 @@ wall : Settings
 wall = settings 6 1 100 10 400 0 12
 
 sound : Call
-sound = call (0 ∷ []) (replicate 6 0) (replicate 20 100) 6
+sound = call (0 ∷ []) (replicate 6 0) (replicate 20 100) 6 6
 
 broken : Call
 broken =
     call (8 ∷ []) (replicate 6 0)
-    (100 ∷ 100 ∷ 100 ∷ 100 ∷ 100 ∷ 100 ∷ 100 ∷ 100 ∷ 100 ∷ 1000 ∷ 100 ∷ 1000 ∷ 100 ∷ 100 ∷ 1000 ∷ 100 ∷ 100 ∷ 1000 ∷ 100 ∷ 100 ∷ []) 6
+    (100 ∷ 100 ∷ 100 ∷ 100 ∷ 100 ∷ 100 ∷ 100 ∷ 100 ∷ 100 ∷ 1000 ∷ 100 ∷ 1000 ∷ 100 ∷ 100 ∷ 1000 ∷ 100 ∷ 100 ∷ 1000 ∷ 100 ∷ 100 ∷ []) 6 6
 
 first-settings : settings-of printed-file ≡ wall
 unfolding printed-file put at-1000 broken-file settings-of after-settings start-of after-start calls-in calls-of call-in tiles-in marks-in row-size marks-field links-in links-below tile-links drifts-in tile-place times-in settings-in body big-endian call mark-bytes table-from links-before predecessors is-predecessor columns-from are-neighbours settings wall

@@ -9,13 +9,14 @@ use Rattle.settings.proofs.Laws.Cases.{by-zero}
 use Rattle.settings.proofs.Laws.Settings.{limits}
 use Rattle.admission.specs.Call.{Call}
 use Rattle.row.specs.declared.Planned.the-variants.{Row, Refused}
-use Rattle.row.specs.Row.{row-of, least-of, most-of, planned, written, number-of, earliest-of, latest-of}
+use Rattle.row.specs.Row.{row-of, letters-of, least-of, most-of, planned, written, lettered, number-of, earliest-of, latest-of}
 use Rattle.row.specs.Promises.{Row-answered, Row-ends, Running-ends}
 use Rattle.admission.specs.Refusal.{row-refusal}
+use Rattle.pulse.specs.Pulse.{pulsed-at}
 use Rattle.admission.proofs.Laws.Accepted.{accepted}
 use Rattle.pulse.proofs.Laws.Stampable.{pulse-small}
 use Rattle.row.proofs.Laws.Ends.{list-ends}
-use Rattle.row.proofs.Laws.Progress.{row-length, row-at, none-so-far, tile-more, so-far-ends, all-so-far, row-whole}
+use Rattle.row.proofs.Laws.Progress.{row-length, row-at, none-so-far, tile-more, so-far-ends, all-so-far, row-whole, letters-whole}
 
 -- the answer and the row, accepted and refused
 pub planned-accepted : (s : Settings) (ts : List ℕ) (x : Call) → row-refusal s ts x ≡ 0 → planned s ts x ≡ Row (least-of (row-of s ts x)) (most-of (row-of s ts x))
@@ -34,6 +35,14 @@ pub written-refused : (s : Settings) (ts : List ℕ) (x : Call) (held : List ℕ
 unfolding written
 written-refused s ts x held n = rw (ne-eqb (row-refusal s ts x) 0 n)
 
+pub lettered-accepted : (s : Settings) (ts : List ℕ) (x : Call) (held : List ℕ) → row-refusal s ts x ≡ 0 → lettered s ts x held ≡ letters-of s ts x
+unfolding lettered
+lettered-accepted s ts x held e = rw (eq-eqb (row-refusal s ts x) 0 e)
+
+pub lettered-refused : (s : Settings) (ts : List ℕ) (x : Call) (held : List ℕ) → (row-refusal s ts x ≡ 0 → ⊥) → lettered s ts x held ≡ held
+unfolding lettered
+lettered-refused s ts x held n = rw (ne-eqb (row-refusal s ts x) 0 n)
+
 -- the answer's number is the call's
 pub planned-number : (s : Settings) (ts : List ℕ) (x : Call) → number-of (planned s ts x) ≡ row-refusal s ts x
 unfolding number-of
@@ -42,19 +51,24 @@ planned-number s ts x = by-zero (row-refusal s ts x) (λ e. rw (planned-accepted
 -- the answer
 pub row-answered : Row-answered
 unfolding Row-answered
-row-answered s ts x held = (planned-number s ts x, written-refused s ts x held, written-accepted s ts x held)
+row-answered s ts x held = (
+  planned-number s ts x,
+  λ n. (written-refused s ts x (held .times) n, lettered-refused s ts x (held .letters) n),
+  λ e. (written-accepted s ts x (held .times) e, lettered-accepted s ts x (held .letters) e),
+)
 
 -- its earliest and latest time, as the row is filled
 pub running-ends : Running-ends
 unfolding Running-ends
-running-ends s ts x held e room =
+running-ends s ts x held e room letter-room =
     let r = accepted s ts x e in
     record {
       first = none-so-far s ts x held;
-      tile = λ times done f i. tile-more f (omega arith) i refl refl refl;
-      ends = λ times done f i. so-far-ends f (λ c j. pulse-small r c j) i;
-      last = λ times done f w. (
-        row-whole f w room ∙ sym (written-accepted s ts x held e),
+      tile = λ row done f i. tile-more f {p = pulsed-at s ts x (done .next)} (omega arith) (omega arith) i refl refl refl refl;
+      ends = λ row done f i. so-far-ends f (λ c j. pulse-small r c j) i;
+      last = λ row done f w. (
+        row-whole f w room ∙ sym (written-accepted s ts x (held .times) e),
+        letters-whole f w letter-room ∙ sym (lettered-accepted s ts x (held .letters) e),
         rw (planned-accepted s ts x e, f .is-least, f .is-largest, all-so-far f w),
       );
     }

@@ -8,7 +8,7 @@ use Rattle.rule.specs.Stamp.{silence}
 use Rattle.columns.specs.Wrote.{Wrote}
 use Rattle.admission.specs.Call.{Call}
 use Rattle.row.specs.declared.progress.Progress.{Progress}
-use Rattle.row.specs.Row.{row-of, least-of, most-of}
+use Rattle.row.specs.Row.{Pulses, row-of, letters-of, least-of, most-of}
 
 -- §E2.1 before the first tile
 abbrev pub none-done : Progress
@@ -18,8 +18,10 @@ none-done = record { next = 0; earliest = silence; latest = 0 }
 abbrev pub with-time : Progress → (time : ℕ) → Progress
 with-time done t = record { next = done .next + 1; earliest = min (done .earliest) t; latest = max (done .latest) t }
 
--- §E2.1 the tiles before the next one are written with their pulses, and the two running values are the least and the largest of those times
-pub record So-far (s : Settings) (before : List ℕ) (x : Call) (held times : List ℕ) (done : Progress) : Type 0 where
-  pub pulses : Wrote held 0 (take (done .next) (row-of s before x)) times (done .next)
-  pub is-least : done .earliest ≡ least-of (take (done .next) times)
-  pub is-largest : done .latest ≡ most-of (take (done .next) times)
+-- §E2.1 the tiles before the next one are written with their pulses and letters (§E3.4), and the two running values are the least and the
+-- largest of those times
+pub record So-far (s : Settings) (before : List ℕ) (x : Call) (held row : Pulses) (done : Progress) : Type 0 where
+  pub pulses : Wrote (held .times) 0 (take (done .next) (row-of s before x)) (row .times) (done .next)
+  pub letters : Wrote (held .letters) 0 (take (done .next) (letters-of s before x)) (row .letters) (done .next)
+  pub is-least : done .earliest ≡ least-of (take (done .next) (row .times))
+  pub is-largest : done .latest ≡ most-of (take (done .next) (row .times))

@@ -1,4 +1,4 @@
-// One row of pulses, worked out from the row before it.
+// One row of pulses and their letters, worked out from the row before it.
 mod progress;
 
 use crate::progress::Progress;
@@ -7,7 +7,7 @@ use settings::Settings;
 ghost use mathlib.Core.Path.{_≡_};
 ghost use lib.ListN.{length};
 ghost use Rattle.admission.specs.Call.{call};
-ghost use Rattle.row.specs.Row.{planned, written};
+ghost use Rattle.row.specs.Row.{planned, written, lettered};
 
 pub enum Planned {
     // The earliest and latest time of the row that was written.
@@ -16,8 +16,8 @@ pub enum Planned {
     Refused(u32),
 }
 
-// Writes the row's times, from the times of the row before, its fault marks, and the drifts and link
-// values of the row. A row that is turned away is left as it was.
+// Writes the row's times and letters, from the times of the row before, its fault marks, and the drifts
+// and link values of the row. Rows that are turned away are left as they were.
 pub fn plan(
     settings: Settings,
     before: &[u64],
@@ -25,18 +25,38 @@ pub fn plan(
     drifts: &[u32],
     links: &[u64],
     times: &mut [u64],
+    letters: &mut [u8],
 ) -> Planned
-    ensures answer { λ r. ⌜ r ≡ planned settings (now (before .entry)) (call (now (marks .entry)) (now (drifts .entry)) (now (links .entry)) (length (now (times .entry)))) ⌝ }
-    ensures row { λ r. ⌜ now (times .exit) ≡ written settings (now (before .entry)) (call (now (marks .entry)) (now (drifts .entry)) (now (links .entry)) (length (now (times .entry)))) (now (times .entry)) ⌝ }
+    ensures answer { λ r. ⌜ r ≡ planned settings (now (before .entry)) (call (now (marks .entry)) (now (drifts .entry)) (now (links .entry)) (length (now (times .entry))) (length (now (letters .entry)))) ⌝ }
+    ensures row { λ r. ⌜ now (times .exit) ≡ written settings (now (before .entry)) (call (now (marks .entry)) (now (drifts .entry)) (now (links .entry)) (length (now (times .entry))) (length (now (letters .entry)))) (now (times .entry)) ⌝ }
+    ensures letters { λ r. ⌜ now (letters .exit) ≡ lettered settings (now (before .entry)) (call (now (marks .entry)) (now (drifts .entry)) (now (links .entry)) (length (now (times .entry))) (length (now (letters .entry)))) (now (letters .entry)) ⌝ }
 {
-    let number = admission::refusal(settings, before, marks, drifts, links, times.len());
+    let number = admission::refusal(
+        settings,
+        before,
+        marks,
+        drifts,
+        links,
+        times.len(),
+        letters.len(),
+    );
     if number != 0 {
         return Planned::Refused(number);
     }
     let step = settings::step(settings.unit, settings.drift);
     let mut done = Progress::none();
     while done.next < times.len() {
-        done = further(settings, step, before, marks, drifts, links, times, done);
+        done = further(
+            settings,
+            step,
+            before,
+            marks,
+            drifts,
+            links,
+            times,
+            letters,
+            done,
+        );
     }
     Planned::Row {
         earliest: done.earliest,

@@ -1,5 +1,6 @@
 // A row as it is filled, from its first column on.
 use columns::plain;
+use pulse::Pulsed;
 use pulse::correct;
 use pulse::pulse;
 use rule::forwarding::SILENT;
@@ -12,6 +13,8 @@ ghost use lib.ListN.{length, set};
 ghost use Rattle.settings.specs.Settings.{step-of};
 ghost use Rattle.admission.specs.Call.{call};
 ghost use Rattle.admission.specs.Refusal.{row-refusal};
+ghost use Rattle.rule.specs.Letter.{byte-of};
+ghost use Rattle.row.specs.Row.{pulses};
 ghost use Rattle.row.specs.Progress.{none-done, with-time, So-far};
 
 pub struct Progress {
@@ -33,14 +36,18 @@ impl Progress {
         }
     }
 
-    // Writes the next column's time, and takes it into the earliest and the latest.
-    fn put(self, time: u64, times: &mut [u64]) -> Self
-        requires { ⌜ (self .next < length (now times)) × (length (now times) ≤ 256) ⌝ }
-        ensures row { λ _. ⌜ now (times .exit) ≡ set (now (times .entry)) (self .next) time ⌝ }
-        ensures ends { λ r. ⌜ r ≡ with-time self time ⌝ }
+    // Writes the next column's time and letter, and takes the time into the earliest and the latest.
+    fn put(self, pulsed: Pulsed, times: &mut [u64], letters: &mut [u8]) -> Self
+        requires { ⌜ (self .next < length (now times)) × (length (now times) ≤ 256) × (length (now letters) ≡ length (now times)) ⌝ }
+        ensures row { λ _. ⌜ now (times .exit) ≡ set (now (times .entry)) (self .next) (pulsed .time) ⌝ }
+        ensures letters { λ _. ⌜ now (letters .exit) ≡ set (now (letters .entry)) (self .next) (byte-of (pulsed .letter)) ⌝ }
+        ensures ends { λ r. ⌜ r ≡ with-time self (pulsed .time) ⌝ }
     {
         let c = self.next;
+        let time = pulsed.time;
+        let letter = pulsed.letter;
         times[c] = time;
+        letters[c] = letter.byte();
         let next = c + 1;
         let earliest = smaller(self.earliest, time);
         let latest = larger(self.latest, time);
@@ -61,23 +68,24 @@ pub fn further(
     drifts: &[u32],
     links: &[u64],
     times: &mut [u64],
+    letters: &mut [u8],
     done: Progress,
 ) -> Progress
-    requires { ⌜ (row-refusal settings (now before) (call (now marks) (now drifts) (now links) (settings .width)) ≡ 0) × (step ≡ step-of settings) × (length (now times) ≡ settings .width) × (done .next < settings .width) ⌝ }
-    requires { ⌜ So-far settings (now before) (call (now marks) (now drifts) (now links) (settings .width)) (now times) (now times) done ⌝ }
-    ensures filled { λ r. ⌜ So-far settings (now (before .entry)) (call (now (marks .entry)) (now (drifts .entry)) (now (links .entry)) (settings .width)) (now (times .entry)) (now (times .exit)) r ⌝ }
+    requires { ⌜ (row-refusal settings (now before) (call (now marks) (now drifts) (now links) (settings .width) (settings .width)) ≡ 0) × (step ≡ step-of settings) × (length (now times) ≡ settings .width) × (length (now letters) ≡ settings .width) × (done .next < settings .width) ⌝ }
+    requires { ⌜ So-far settings (now before) (call (now marks) (now drifts) (now links) (settings .width) (settings .width)) (pulses (now times) (now letters)) (pulses (now times) (now letters)) done ⌝ }
+    ensures filled { λ r. ⌜ So-far settings (now (before .entry)) (call (now (marks .entry)) (now (drifts .entry)) (now (links .entry)) (settings .width) (settings .width)) (pulses (now (times .entry)) (now (letters .entry))) (pulses (now (times .exit)) (now (letters .exit))) r ⌝ }
     ensures onward { λ r. ⌜ done .next < r .next ⌝ }
 {
     let first = done.next;
     if !plain(before.len(), marks, first) {
-        let time = pulse(settings, step, before, marks, drifts, links, first);
-        return done.put(time, times);
+        let pulsed = pulse(settings, step, before, marks, drifts, links, first);
+        return done.put(pulsed, times, letters);
     }
     let mut so_far = done;
     while so_far.next < first + 8 {
         let c = so_far.next;
-        let time = correct(settings, step, drifts[c] as u64, before, links, c);
-        so_far = so_far.put(time, times);
+        let pulsed = correct(settings, step, drifts[c] as u64, before, links, c);
+        so_far = so_far.put(pulsed, times, letters);
     }
     so_far
 }

@@ -61,8 +61,8 @@ pub fn links(kind: u8, n: Numbers) -> [u64; 1024]
         return connected(n.0 % 257, n.1 % 256 + 3, n.2);
     }
     let mut all = [1000u64; 1024];
-    all[0] = n.9;
-    all[19] = n.10;
+    all[0] = n.10;
+    all[19] = n.11;
     all
 }
 

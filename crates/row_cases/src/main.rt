@@ -1,7 +1,8 @@
 // Runs rows through the row operation, as the file `stdin` lists them: faulty senders that are early,
-// late and silent at the columns of either end, for several widths, and a call for each number and
-// the order between them.
+// late and silent at the columns of either end, for several widths, a call for each number and the
+// order between them, and one at each tie between two letters (§E3.1).
 mod handed;
+mod letters;
 mod plan;
 
 use bytes::scan::find;
@@ -26,18 +27,21 @@ fn run(text: &[u8]) {
     }
 }
 
+// Writes what a row with a faulty tile came to, or whether a call came out.
 fn case(line: &[u8]) {
     let case = cases::read(line);
     let kind = case.kind;
     if kind != b'#' {
-        let given = planned(kind, case.numbers);
-        tell(
-            line,
-            kind,
-            fits(kind, case.count, case.numbers),
-            case.numbers.11,
-            given,
-        );
+        let n = case.numbers;
+        let fits = fits(kind, case.count, n);
+        let given = planned(kind, n);
+        if kind == b'f' && fits && given.refusal == 0 {
+            cases::label(line);
+            write(given, n.0);
+        } else {
+            let right = right(n.12, n.13, given);
+            cases::report(line, kind == b'p' && fits && right);
+        }
     }
 }
 
@@ -46,33 +50,28 @@ fn case(line: &[u8]) {
 fn fits(kind: u8, count: usize, n: Numbers) -> bool {
     match kind {
         b'f' => count == 3 && n.0 <= 256 && n.1 < n.0,
-        b'p' => count == 12 && (n.0 | n.1 | n.2 | n.3 | n.4 | n.8) < 1024 && n.7 < 256,
+        b'p' => count == 14 && (n.0 | n.1 | n.2 | n.3 | n.4 | n.5 | n.9) < 1024 && n.8 < 256,
         _ => false,
     }
 }
 
-// Writes the earliest and latest time and the digest of a row with a faulty tile, or whether a call
-// came out.
-fn tell(line: &[u8], kind: u8, fits: bool, expected: u64, given: Outcome) {
-    if kind == b'f' && fits && given.refusal == 0 {
-        cases::label(line);
-        write(given.earliest, given.latest, given.digest);
-    } else {
-        let right = right(expected, given.refusal, given.sevens);
-        cases::report(line, kind == b'p' && fits && right);
-    }
-}
-
 // Whether a call was turned away with the number that is expected, which leaves the sevens that the
-// row held, or accepted where that is 0.
-fn right(expected: u64, refusal: u64, sevens: bool) -> bool {
-    refusal == expected && sevens == (expected != 0)
+// row held, or accepted where that is 0, and the letters are those expected.
+fn right(number: u64, letters: u64, given: Outcome) -> bool {
+    let given_letters = given.letters;
+    number == given.refusal
+        && given.sevens == (number != 0)
+        && letters::are(&given_letters, letters)
 }
 
-fn write(earliest: u64, latest: u64, digest: u64) {
-    field(b" from ", earliest);
-    field(b" to ", latest);
-    field(b" ", digest);
+// Writes the earliest and latest time, the digest and the letters of a row with a faulty tile.
+fn write(row: Outcome, width: u64) {
+    let letters = row.letters;
+    field(b" from ", row.earliest);
+    field(b" to ", row.latest);
+    field(b" ", row.digest);
+    io::write_all(STDOUT_FILENO, b" ");
+    letters::write(letters, width);
     io::write_all(STDOUT_FILENO, b"\n");
 }
 

@@ -16,6 +16,8 @@ pub struct Outcome {
     pub digest: u64,
     // Whether the row holds sevens throughout.
     pub sevens: bool,
+    // The letters, and dashes in places that are not written.
+    pub letters: [u8; 1024],
 }
 
 // A row's width, how much of each array is lent, and what the row holds before the call. A case with
@@ -27,11 +29,12 @@ struct Sizes {
     drifts: usize,
     links: usize,
     room: usize,
+    letters: usize,
     held: u64,
 }
 
 fn sized(kind: u8, n: Numbers) -> Sizes
-    ensures { λ r. ⌜ (r .times < 1024) × (r .marks < 1024) × (r .drifts < 1024) × (r .links < 1024) × (r .room < 1024) ⌝ }
+    ensures { λ r. ⌜ (r .times < 1024) × (r .marks < 1024) × (r .drifts < 1024) × (r .links < 1024) × (r .room < 1024) × (r .letters < 1024) ⌝ }
 {
     if kind == b'f' {
         return of_width((n.0 % 257) as usize);
@@ -43,13 +46,14 @@ fn sized(kind: u8, n: Numbers) -> Sizes
         drifts: (n.2 % 1024) as usize,
         links: (n.3 % 1024) as usize,
         room: (n.4 % 1024) as usize,
+        letters: (n.5 % 1024) as usize,
         held: 7,
     }
 }
 
 fn of_width(w: usize) -> Sizes
     requires { ⌜ w < 257 ⌝ }
-    ensures { λ r. ⌜ (r .times < 1024) × (r .marks < 1024) × (r .drifts < 1024) × (r .links < 1024) × (r .room < 1024) ⌝ }
+    ensures { λ r. ⌜ (r .times < 1024) × (r .marks < 1024) × (r .drifts < 1024) × (r .links < 1024) × (r .room < 1024) × (r .letters < 1024) ⌝ }
 {
     Sizes {
         width: w as u64,
@@ -58,6 +62,7 @@ fn of_width(w: usize) -> Sizes
         drifts: w,
         links: 3 * w + 2,
         room: w,
+        letters: w,
         held: 0,
     }
 }
@@ -78,11 +83,12 @@ fn wall(width: u64) -> Settings {
 // The call that a case makes.
 pub fn planned(kind: u8, n: Numbers) -> Outcome {
     let size = sized(kind, n);
-    let before = times(kind, n.5, n.6);
-    let marks = marks(kind, n.1, n.7);
-    let drifts = drifts(kind, n.8);
+    let before = times(kind, n.6, n.7);
+    let marks = marks(kind, n.1, n.8);
+    let drifts = drifts(kind, n.9);
     let links = links(kind, n);
     let mut row = [size.held; 1024];
+    let mut letters = [b'-'; 1024];
     let answer = row::plan(
         wall(size.width),
         &before[..size.times],
@@ -90,12 +96,13 @@ pub fn planned(kind: u8, n: Numbers) -> Outcome {
         &drifts[..size.drifts],
         &links[..size.links],
         &mut row[..size.room],
+        &mut letters[..size.letters],
     );
-    told(answer, look(&row))
+    told(answer, look(&row), letters)
 }
 
-// An answer and what is seen of the row.
-fn told(answer: Planned, seen: Seen) -> Outcome {
+// An answer, what is seen of the row, and the letters.
+fn told(answer: Planned, seen: Seen, letters: [u8; 1024]) -> Outcome {
     match answer {
         Planned::Row { earliest, latest } => Outcome {
             refusal: 0,
@@ -103,6 +110,7 @@ fn told(answer: Planned, seen: Seen) -> Outcome {
             latest,
             digest: seen.digest,
             sevens: seen.sevens,
+            letters,
         },
         Planned::Refused(number) => Outcome {
             refusal: number as u64,
@@ -110,6 +118,7 @@ fn told(answer: Planned, seen: Seen) -> Outcome {
             latest: 0,
             digest: seen.digest,
             sevens: seen.sevens,
+            letters,
         },
     }
 }

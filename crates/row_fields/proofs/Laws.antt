@@ -9,7 +9,7 @@ use borrow.Author.Tests.{eq-eqb, ne-eqb}
 use Rattle.settings.specs.declared.Settings.{Settings}
 use Rattle.settings.proofs.Laws.Cases.{by-equal}
 use Rattle.admission.specs.Call.{call}
-use Rattle.row.specs.Row.{row-of, number-of, planned, written}
+use Rattle.row.specs.Row.{Pulses, pulses, next-pulses, number-of, planned, written, lettered}
 use Rattle.row.specs.Promises.{Row-answered}
 use Rattle.columns.specs.Marks.{mark-bytes}
 use Rattle.admission.specs.Refusal.{row-refusal}
@@ -33,12 +33,12 @@ module _ (w v : ℕ) (e : w ≡ v) (part : List ℕ) where
   unfolding marks-field mark-bytes
   tiles-number = rw (to-the-end (3 + (w + 7) / 8) part, e)
 
-  pub call-made : (room : ℕ) {marks drifts links tiles : List ℕ} → room ≡ v → marks ≡ body ((w + 7) / 8) part → tiles ≡ body (26 * w + 16) at-tiles →
-      drifts ≡ drifts-in w tiles → links ≡ links-in w tiles → call marks drifts links room ≡ call-in v part
+  pub call-made : (room letters : ℕ) {marks drifts links tiles : List ℕ} → room ≡ v → letters ≡ v → marks ≡ body ((w + 7) / 8) part → tiles ≡ body (26 * w + 16) at-tiles →
+      drifts ≡ drifts-in w tiles → links ≡ links-in w tiles → call marks drifts links room letters ≡ call-in v part
   unfolding call-in marks-in tiles-in marks-field mark-bytes
-  call-made room r m t d l = rw (d, l, t, m, r, to-the-end (3 + (w + 7) / 8) part, e)
+  call-made room letters r x m t d l = rw (d, l, t, m, r, x, to-the-end (3 + (w + 7) / 8) part, e)
 
-module _ (s : Settings) (part before held : List ℕ) (p : Plannable s part (length before) (length held)) where
+module _ (s : Settings) (part before : List ℕ) (held : Pulses) (p : Plannable s part (length before) (length (held .times)) (length (held .letters))) where
   -- the marks are there
   pub after-marks : 3 + mark-bytes (s .width) ≤ length part
   after-marks = field-there 3 (mark-bytes (s .width)) part (p .marks-there)
@@ -46,32 +46,33 @@ module _ (s : Settings) (part before held : List ℕ) (p : Plannable s part (len
   -- the tiles' field is turned away
   pub tiles-away : (n : ℕ) → n ≡ field-refusal 4 (tiles-size (s .width)) (drop (marks-field (s .width)) part) → (n ≡ 0 → ⊥) → Worked-out s part before held n held
   tiles-away n e k =
-      record { answered = sym (rw (← e) (else-first n _ k)); row = rw (ne-eqb n 0 k) }
+      record { answered = sym (rw (← e) (else-first n _ k)); wrote = rw (ne-eqb n 0 k) }
 
   -- the row operation's answer and row
-  module _ (there : field-refusal 4 (tiles-size (s .width)) (drop (marks-field (s .width)) part) ≡ 0) (answer : Planned) (times : List ℕ)
-      (is-answer : answer ≡ planned s before (call-in (s .width) part)) (is-row : times ≡ written s before (call-in (s .width) part) held) where
+  module _ (there : field-refusal 4 (tiles-size (s .width)) (drop (marks-field (s .width)) part) ≡ 0) (answer : Planned) (times letters : List ℕ)
+      (is-answer : answer ≡ planned s before (call-in (s .width) part)) (is-row : times ≡ written s before (call-in (s .width) part) (held .times))
+      (is-letters : letters ≡ lettered s before (call-in (s .width) part) (held .letters)) where
     number : number-of answer ≡ row-refusal s before (call-in (s .width) part)
     unfolding Row-answered
     number = ap number-of is-answer ∙ row-answered s before (call-in (s .width) part) held .0
 
-    pub worked : Worked-out s part before held (number-of answer) times
-    unfolding Row-answered row-of
+    pub worked : Worked-out s part before held (number-of answer) (pulses times letters)
+    unfolding Row-answered
     worked =
         let x = call-in (s .width) part in
         let a = row-answered s before x held in
         record {
           answered = number ∙ sym (else-other (field-refusal 4 (tiles-size (s .width)) (drop (marks-field (s .width)) part)) _ there);
-          row = is-row
-              ∙ by-equal (number-of answer) 0
-              (λ z. rw (eq-eqb (number-of answer) 0 z) (a .2 (sym number ∙ z)))
-              (λ k. rw (ne-eqb (number-of answer) 0 k) (a .1 (λ z. k (number ∙ z))));
+          wrote =
+              by-equal (number-of answer) 0
+              (λ z. let b = a .2 (sym number ∙ z) in rw (eq-eqb (number-of answer) 0 z, is-row ∙ b .0, is-letters ∙ b .1))
+              (λ k. let b = a .1 (λ z. k (number ∙ z)) in rw (ne-eqb (number-of answer) 0 k, is-row ∙ b .0, is-letters ∙ b .1));
         }
 
 -- the row afterwards, by the number
-module _ {s : Settings} {part before held times : List ℕ} {n : ℕ} (w : Worked-out s part before held n times) where
-  pub worked-away : (n ≡ 0 → ⊥) → times ≡ held
-  worked-away k = rw (ne-eqb n 0 k) at (w .row)
+module _ {s : Settings} {part before : List ℕ} {held row : Pulses} {n : ℕ} (w : Worked-out s part before held n row) where
+  pub worked-away : (n ≡ 0 → ⊥) → row ≡ held
+  worked-away k = rw (ne-eqb n 0 k) at (w .wrote)
 
-  pub worked-row : n ≡ 0 → times ≡ row-of s before (call-in (s .width) part)
-  worked-row e = rw (eq-eqb n 0 e) at (w .row)
+  pub worked-row : n ≡ 0 → row ≡ next-pulses s before (call-in (s .width) part)
+  worked-row e = rw (eq-eqb n 0 e) at (w .wrote)

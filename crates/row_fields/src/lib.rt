@@ -5,6 +5,7 @@ ghost use mathlib.Core.Path.{_≡_};
 ghost use Prim.Native.Nat.{_+_, _*_, _≤_};
 ghost use lib.ListN.{length};
 ghost use Rattle.contents.specs.Contents.{row-size};
+ghost use Rattle.row.specs.Row.{pulses};
 ghost use Rattle.row_fields.specs.Worked.{Plannable, Worked-out};
 
 // Works out the row that tags 3 and 4 describe, or answers its number. `links` is room for its link values.
@@ -14,9 +15,10 @@ pub fn plan(
     before: &[u64],
     links: &mut [u64],
     times: &mut [u64],
+    letters: &mut [u8],
 ) -> u32
-    requires { ⌜ Plannable settings (now part) (length (now before)) (length (now times)) × (770 ≤ length (now links)) ⌝ }
-    ensures { λ r. ⌜ Worked-out settings (now (part .entry)) (now (before .entry)) (now (times .entry)) r (now (times .exit)) ⌝ }
+    requires { ⌜ Plannable settings (now part) (length (now before)) (length (now times)) (length (now letters)) × (770 ≤ length (now links)) ⌝ }
+    ensures { λ r. ⌜ Worked-out settings (now (part .entry)) (now (before .entry)) (pulses (now (times .entry)) (now (letters .entry))) r (pulses (now (times .exit)) (now (letters .exit))) ⌝ }
 {
     let width = before.len();
     let mut drifts = drift_space();
@@ -27,6 +29,7 @@ pub fn plan(
         &mut drifts[..width],
         &mut links[..3 * width + 2],
         times,
+        letters,
     )
 }
 
@@ -38,10 +41,11 @@ fn plan_in(
     drifts: &mut [u32],
     links: &mut [u64],
     times: &mut [u64],
+    letters: &mut [u8],
 ) -> u32
-    requires { ⌜ Plannable settings (now part) (length (now before)) (length (now times)) ⌝ }
+    requires { ⌜ Plannable settings (now part) (length (now before)) (length (now times)) (length (now letters)) ⌝ }
     requires { ⌜ (length (now drifts) ≡ settings .width) × (length (now links) ≡ 3 * settings .width + 2) ⌝ }
-    ensures { λ r. ⌜ Worked-out settings (now (part .entry)) (now (before .entry)) (now (times .entry)) r (now (times .exit)) ⌝ }
+    ensures { λ r. ⌜ Worked-out settings (now (part .entry)) (now (before .entry)) (pulses (now (times .entry)) (now (letters .entry))) r (pulses (now (times .exit)) (now (letters .exit))) ⌝ }
 {
     let width = before.len();
     let marks = (width + 7) / 8;
@@ -59,6 +63,7 @@ fn plan_in(
         drifts,
         links,
         times,
+        letters,
     );
     match answer {
         Planned::Row {

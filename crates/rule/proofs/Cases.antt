@@ -6,26 +6,31 @@ use Rattle.rule.specs.Clock.{reads, first-tick}
 use Rattle.rule.specs.Signed.{larger, smaller, natural}
 use Rattle.rule.specs.Stamp.{earlier, later, earliest, latest, stamp-of, code-of}
 use Rattle.rule.specs.Forward.{larger-at, least-to, D, heard-correction, P, correction}
+use Rattle.rule.specs.Letter.{early-or-kept, heard-letter, letter}
 use Rattle.rule.specs.Pulse.{tile-P, tile-pulse}
-use Rattle.rule.specs.Cases.{case, stamps, starred, around-zero, with-silence, Given, Meets, Each-meets, Starred-met, Around-zero-met, Silence-met, Clock-cases, Stamp-limits, Pulse-cases}
+use Rattle.rule.specs.Cases.{case, stamps, starred, around-zero, with-silence, at-ties, Given, Meets, Each-meets, Starred-met, Around-zero-met, Ties-met, Silence-met, Clock-cases, Stamp-limits, Pulse-cases}
 
--- what P and the correction are computed by
+-- what P, the correction and the letter are computed by
 unfoldable pub rule-computed : Unit {0}
-unfolding settings-computed P correction heard-correction D least-to larger-at larger smaller earliest latest earlier later
+unfolding settings-computed letter heard-letter early-or-kept P correction heard-correction D least-to larger-at larger smaller earliest latest earlier later
 rule-computed = tt
 
 pub starred-met : Starred-met
 unfolding rule-computed Starred-met Each-meets Meets Given starred case stamps
 starred-met =
-    ((refl, tt), ((refl, tt), ((refl, tt), ((refl, refl), ((refl, tt), ((refl, refl), ((refl, tt), ((refl, tt), ((refl, tt), ((refl, tt), ((refl, tt), ((refl, tt), tt))))))))))))
+    ((refl, refl, tt), ((refl, refl, tt), ((refl, refl, tt), ((refl, refl, refl), ((refl, refl, tt), ((refl, refl, refl), ((refl, refl, tt), ((refl, refl, tt), ((refl, refl, tt), ((refl, refl, tt), ((refl, refl, tt), ((refl, refl, tt), tt))))))))))))
 
 pub around-zero-met : Around-zero-met
 unfolding rule-computed Around-zero-met Each-meets Meets Given around-zero case stamps
-around-zero-met = ((refl, refl), ((refl, refl), ((refl, refl), tt)))
+around-zero-met = ((refl, refl, refl), ((refl, refl, refl), ((refl, refl, refl), tt)))
+
+pub ties-met : Ties-met
+unfolding rule-computed Ties-met Each-meets Meets Given at-ties case stamps
+ties-met = ((refl, refl, refl), ((refl, refl, refl), ((refl, refl, refl), ((refl, refl, refl), ((refl, refl, refl), ((refl, refl, refl), ((refl, refl, refl), ((refl, refl, refl), tt))))))))
 
 pub silence-met : Silence-met
 unfolding rule-computed Silence-met Each-meets Meets Given with-silence case
-silence-met = (((refl, refl), ((refl, refl), ((refl, tt), tt))), refl)
+silence-met = (((refl, refl, refl), ((refl, refl, refl), ((refl, refl, tt), tt))), refl)
 
 pub clock-cases : Clock-cases
 unfolding Clock-cases reads first-tick up

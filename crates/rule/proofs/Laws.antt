@@ -4,6 +4,7 @@ pub mod Signed
 pub mod Middle
 pub mod Heard
 pub mod Closed
+pub mod Letter
 pub mod Stamp
 pub mod Forward
 pub mod Coded

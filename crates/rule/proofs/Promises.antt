@@ -1,5 +1,5 @@
 -- The proofs of what specs/Promises.antt states, from the laws in proofs/Laws/. Assumes nothing.
-use mathlib.Core.Path.{_≡_, sym, _∙_, ap}
+use mathlib.Core.Path.{_≡_, refl, sym, _∙_, ap}
 use mathlib.Core.List.{List, [], _∷_, map}
 use Prim.Native.Nat.{ℕ, _-_, _≤_}
 use lib.IntN.{pos}
@@ -10,13 +10,14 @@ use Rattle.settings.specs.Settings.{step-of, checked}
 use Rattle.rule.specs.Signed.{natural}
 use Rattle.rule.specs.Stamp.{Stamp, heard, _≼_, in-order, _∈_, here, there, earliest, latest, after, From-to, within, none, more, All-but-one, this, later-on}
 use Rattle.rule.specs.Closed.{closed-P}
-use Rattle.rule.specs.Pulse.{tile-P}
-use Rattle.rule.specs.Promises.{Tick-least, D-least, Rule-closed, Tile, P-exact, P-monotone, P-shifts, own-free, neighbour-free, Envelope, Between-two, Forward-between}
+use Rattle.rule.specs.Pulse.{tile-P, tile-letter}
+use Rattle.rule.specs.Promises.{Tick-least, D-least, Rule-closed, Tile, P-exact, says-k, says-e, says-m, says-b, says-l, Letter-says, Letter-gives, P-monotone, P-shifts, own-free, neighbour-free, Envelope, Between-two, Forward-between}
 use Rattle.settings.specs.declared.Settings.{Settings}
 use Rattle.rule.proofs.Laws.Clock.{first-reads, before-first}
 use Rattle.settings.proofs.Laws.Settings.{limits, step-small}
 use Rattle.rule.proofs.Laws.Middle.{lift-turn}
 use Rattle.rule.proofs.Laws.Closed.{D-attained, D-below, rule-closed as rule-closed-of}
+use Rattle.rule.proofs.Laws.Letter.{says}
 use Rattle.rule.proofs.Laws.Stamp.{as-long, earliest-mono, latest-mono, earliest-∈, latest-∈, earliest-≼-latest, earliest-within, latest-within, earliest-after, latest-after}
 use Rattle.rule.proofs.Laws.Forward.{enough, P-mono, P-after, by-neighbours, by-own-and-one}
 
@@ -45,6 +46,18 @@ closed {s} {ns} own t = ap natural (rule-closed-of (limits s (t .checked) .unit 
 pub p-exact : P-exact
 unfolding P-exact
 p-exact s own ns t = rule-closed-of (limits s (t .checked) .unit .0) (step-of s) own (ordered t) ∙ ap pos (sym (closed own t))
+
+pub letter-says : Letter-says
+unfolding Letter-says tile-letter
+letter-says s own ns t few = says (limits s (t .checked) .unit .0) (step-of s) (enough own ns (t .two) few) (ordered t)
+
+pub letter-gives : Letter-gives
+unfolding Letter-gives
+letter-gives h j own l m x p q says-k says-k = refl
+letter-gives h j own l m x p q (says-e a) (says-e b) = refl
+letter-gives h j own l m x p q says-m says-m = refl
+letter-gives h j own l m x p q says-b says-b = refl
+letter-gives h j own l m x p q says-l says-l = refl
 
 pub p-monotone : P-monotone
 unfolding P-monotone

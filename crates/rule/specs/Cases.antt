@@ -1,4 +1,4 @@
--- The tile cases that have a star, the corrections next to zero and silence, all with h 12; then clocks, the
+-- The tile cases that have a star, the corrections next to zero, the ties of letters and silence, all with h 12; then clocks, the
 -- limits of stamps and pulses. Each statement is proved in proofs/Cases.antt, under its name in small letters. Assumes nothing.
 use mathlib.Core.Path.{_≡_}
 use mathlib.Core.List.{List, [], _∷_}
@@ -9,19 +9,23 @@ use Rattle.settings.specs.Settings.{settings, step}
 use Rattle.rule.specs.Clock.{reads, first-tick}
 use Rattle.rule.specs.Stamp.{Stamp, heard, silent, earliest, latest, latest-stamp, silence, stamp-of, code-of}
 use Rattle.rule.specs.Forward.{P, correction}
+use Rattle.rule.specs.Letter.{letter}
 use Rattle.rule.specs.Pulse.{tile-pulse}
+use Rattle.rule.specs.declared.letter.Letter.{Letter}
+use Rattle.rule.specs.declared.letter.Letter.the-variants.{Kept, Early, Middle, Back, Late}
 
--- §14.1 a case: the drift limit r, the stamps, and P with the correction where one is given
+-- §14.1 a case: the drift limit r, the stamps, and P with the correction where one is given; §E3.1 and the letter
 pub record Case : Type 0 where
   pub r : ℕ
   pub own : Stamp
   pub neighbours : List Stamp
   pub p : ℕ
+  pub letter : Letter
   pub correction : Option ℤ
 
--- §14.1 a case by r, the neighbours, own, P, and the correction if one is given
-unfoldable pub case : (r : ℕ) → (neighbours : List Stamp) → (own : Stamp) → (p : ℕ) → Option ℤ → Case
-case r ns own p c = record { r = r; own = own; neighbours = ns; p = p; correction = c }
+-- §14.1 a case by r, the neighbours, own, P, its letter, and the correction if one is given
+unfoldable pub case : (r : ℕ) → (neighbours : List Stamp) → (own : Stamp) → (p : ℕ) → Letter → Option ℤ → Case
+case r ns own p x c = record { r = r; own = own; neighbours = ns; p = p; letter = x; correction = c }
 
 -- §14.1 two neighbours that are heard
 unfoldable pub stamps : (a b : ℕ) → List Stamp
@@ -30,35 +34,49 @@ stamps a b = heard a ∷ heard b ∷ []
 -- §14.1 the starred cases, each with its P and, where one is given, its correction
 unfoldable pub starred : List Case
 starred =
-    case 0 (stamps 100 100) (heard 100) 100 none
-    ∷ case 0 (stamps 100 100) (heard 136) 112 none
-    ∷ case 0 (stamps 100 100) (heard 137) 113 none
-    ∷ case 0 (stamps 100 100) (heard 200) 136 (some (pos 64))
-    ∷ case 0 (stamps 100 100) (heard 64) 64 none
-    ∷ case 0 (stamps 100 100) (heard 63) 64 (some (negsuc 0))
-    ∷ case 0 (stamps 100 300) (heard 220) 208 none
-    ∷ case 0 (stamps 0 100) (heard 110) 86 none
-    ∷ case 0 (stamps 100 130) silent 166 none
-    ∷ case 0 (heard 100 ∷ silent ∷ []) (heard 90) 90 none
-    ∷ case 0 (heard 100 ∷ silent ∷ []) (heard 50) 64 none
-    ∷ case 10000 (stamps 100 100) (heard 137) 112 none
+    case 0 (stamps 100 100) (heard 100) 100 Kept none
+    ∷ case 0 (stamps 100 100) (heard 136) 112 Middle none
+    ∷ case 0 (stamps 100 100) (heard 137) 113 Back none
+    ∷ case 0 (stamps 100 100) (heard 200) 136 Late (some (pos 64))
+    ∷ case 0 (stamps 100 100) (heard 64) 64 Kept none
+    ∷ case 0 (stamps 100 100) (heard 63) 64 Early (some (negsuc 0))
+    ∷ case 0 (stamps 100 300) (heard 220) 208 Middle none
+    ∷ case 0 (stamps 0 100) (heard 110) 86 Back none
+    ∷ case 0 (stamps 100 130) silent 166 Late none
+    ∷ case 0 (heard 100 ∷ silent ∷ []) (heard 90) 90 Kept none
+    ∷ case 0 (heard 100 ∷ silent ∷ []) (heard 50) 64 Early none
+    ∷ case 10000 (stamps 100 100) (heard 137) 112 Middle none
     ∷ []
 
 -- §4.3 a correction of -1, of 0 and of 1
 unfoldable pub around-zero : List Case
 around-zero =
-    case 0 (stamps 100 100) (heard 63) 64 (some (negsuc 0))
-    ∷ case 0 (stamps 100 100) (heard 64) 64 (some (pos 0))
-    ∷ case 0 (stamps 100 100) (heard 113) 112 (some (pos 1))
+    case 0 (stamps 100 100) (heard 63) 64 Early (some (negsuc 0))
+    ∷ case 0 (stamps 100 100) (heard 64) 64 Kept (some (pos 0))
+    ∷ case 0 (stamps 100 100) (heard 113) 112 Middle (some (pos 1))
     ∷ []
 
 -- §5.3 a late own beside a silent neighbour is not corrected, and an early one waits for the earliest of the other two; §5.2 beside a
 -- silent own the latest of three decides
 unfoldable pub with-silence : List Case
 with-silence =
-    case 0 (heard 100 ∷ silent ∷ []) (heard 200) 200 (some (pos 0))
-    ∷ case 0 (heard 130 ∷ silent ∷ heard 100 ∷ []) (heard 50) 64 (some (negsuc 13))
-    ∷ case 0 (heard 130 ∷ heard 100 ∷ heard 120 ∷ []) silent 166 none
+    case 0 (heard 100 ∷ silent ∷ []) (heard 200) 200 Kept (some (pos 0))
+    ∷ case 0 (heard 130 ∷ silent ∷ heard 100 ∷ []) (heard 50) 64 Early (some (negsuc 13))
+    ∷ case 0 (heard 130 ∷ heard 100 ∷ heard 120 ∷ []) silent 166 Late none
+    ∷ []
+
+-- §E3.1 each tie and what lies a tick past it, with neighbours at 100, where D is own - 112, J 24 and max + 3h 136: D = 0, where P is own too; D = J;
+-- own - J = max + 3h; and P = own below, at min - 3h
+unfoldable pub at-ties : List Case
+at-ties =
+    case 0 (stamps 100 100) (heard 111) 111 Kept (some (pos 0))
+    ∷ case 0 (stamps 100 100) (heard 112) 112 Middle (some (pos 0))
+    ∷ case 0 (stamps 100 100) (heard 136) 112 Middle (some (pos 24))
+    ∷ case 0 (stamps 100 100) (heard 137) 113 Back (some (pos 24))
+    ∷ case 0 (stamps 100 100) (heard 160) 136 Back (some (pos 24))
+    ∷ case 0 (stamps 100 100) (heard 161) 136 Late (some (pos 25))
+    ∷ case 0 (stamps 100 100) (heard 64) 64 Kept (some (pos 0))
+    ∷ case 0 (stamps 100 100) (heard 63) 64 Early (some (negsuc 0))
     ∷ []
 
 -- §14.1 c is the correction that a case gives, if it gives one
@@ -66,11 +84,12 @@ unfoldable pub Given : Option ℤ → Option ℤ → Type 0
 Given none c = Unit {0}
 Given (some z) c = c ≡ some z
 
--- §14.1 the rule, with the step of the case's r, gives its P, and its correction where there is one
+-- §14.1 the rule, with the step of the case's r, gives its P, its letter, and its correction where there is one
 unfoldable pub Meets : Case → Type 0
 Meets x =
     let j = step 12 (x .r) in
     (P 12 j (x .own) (earliest (x .neighbours)) (latest (x .neighbours)) ≡ pos (x .p))
+    × (letter 12 j (x .own) (earliest (x .neighbours)) (latest (x .neighbours)) ≡ x .letter)
     × Given (x .correction) (correction 12 j (x .own) (earliest (x .neighbours)) (latest (x .neighbours)))
 
 -- §14.1 each of some cases is met
@@ -85,6 +104,10 @@ Starred-met = Each-meets starred
 -- §4.3 each case next to zero is met
 unfoldable pub Around-zero-met : Type 0
 Around-zero-met = Each-meets around-zero
+
+-- §E3.1 each case at a tie is met
+unfoldable pub Ties-met : Type 0
+Ties-met = Each-meets at-ties
 
 -- §5.2 each case with silence is met, and a silent own has no correction
 unfoldable pub Silence-met : Type 0

@@ -2,6 +2,7 @@ pub mod Clock
 pub mod Signed
 pub mod Stamp
 pub mod Forward
+pub mod Letter
 pub mod Closed
 pub mod Pulse
 pub mod Cases

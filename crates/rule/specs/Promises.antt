@@ -3,17 +3,19 @@
 use mathlib.Core.Path.{_≡_}
 use mathlib.Core.List.{List, map}
 use Prim.Native.Nat.{ℕ, _+_, _-_, _*_, _≤_, _<_, min, max}
-use lib.IntN.{pos, _-ℤ_}
+use lib.IntN.{ℤ, pos, _+ℤ_, _-ℤ_}
 use lib.ListN.{length}
-use lib.Signed.{_≤ℤ_}
+use lib.Signed.{_≤ℤ_, _<ℤ_}
 use Rattle.settings.specs.Settings.{step-of, settings-refusal, checked}
 use Rattle.rule.specs.Clock.{reads, first-tick}
 use Rattle.rule.specs.Signed.{natural}
 use Rattle.rule.specs.Stamp.{Stamp, heard, _≼_, _≼*_, _∈_, earliest, latest, after, From-to, All, All-but-one, unheard-of, unheard-in}
 use Rattle.rule.specs.Forward.{larger-at, D, P}
-use Rattle.rule.specs.Closed.{closed-P}
-use Rattle.rule.specs.Pulse.{tile-P}
+use Rattle.rule.specs.Closed.{middle, closed-P}
+use Rattle.rule.specs.Pulse.{tile-P, tile-letter}
 use Rattle.settings.specs.declared.Settings.{Settings}
+use Rattle.rule.specs.declared.letter.Letter.{Letter}
+use Rattle.rule.specs.declared.letter.Letter.the-variants.{Kept, Early, Middle, Back, Late}
 
 -- §3.4 the tick of a reading is the least that reads enough, for every drift and phase
 unfoldable pub Tick-least : Type 0
@@ -44,6 +46,25 @@ unfoldable pub P-exact : Type 0
 P-exact =
     (s : Settings) (own : Stamp) (ns : List Stamp) → Tile s ns →
     P (s .unit) (step-of s) own (earliest ns) (latest ns) ≡ pos (tile-P s own ns)
+
+-- §E3.2 what a letter says of P
+pub data Says (h j : ℕ) : (own least most : Stamp) → Letter → (p : ℤ) → Type 0 where
+  says-k : {o : ℕ} {l m : Stamp} → Says h j (heard o) l m Kept (pos o)
+  -- own waits
+  says-e : {o l : ℕ} {m : Stamp} → pos o <ℤ (pos l -ℤ pos (3 * h)) → Says h j (heard o) (heard l) m Early (pos l -ℤ pos (3 * h))
+  says-m : {o l m : ℕ} → Says h j (heard o) (heard l) (heard m) Middle (pos (middle h l m) +ℤ pos h)
+  says-b : {o l m : ℕ} → Says h j (heard o) (heard l) (heard m) Back (pos o -ℤ pos j)
+  says-l : {own l : Stamp} {m : ℕ} → Says h j own l (heard m) Late (pos m +ℤ pos (3 * h))
+
+-- §E3.2 a tile's letter says so of its P
+unfoldable pub Letter-says : Type 0
+Letter-says =
+    (s : Settings) (own : Stamp) (ns : List Stamp) → Tile s ns → unheard-of own + unheard-in ns ≤ 1 →
+    Says (s .unit) (step-of s) own (earliest ns) (latest ns) (tile-letter s own ns) (P (s .unit) (step-of s) own (earliest ns) (latest ns))
+
+-- §E3.2 so letter and stamps leave one P
+unfoldable pub Letter-gives : Type 0
+Letter-gives = (h j : ℕ) (own l m : Stamp) (x : Letter) (p q : ℤ) → Says h j own l m x p → Says h j own l m x q → p ≡ q
 
 -- §5.1 a later stamp, or silence in its place, gives no earlier P
 unfoldable pub P-monotone : Type 0

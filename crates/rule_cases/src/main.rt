@@ -1,6 +1,6 @@
-// Runs the cases of tiles, clocks and settings (§14.1 to §14.3), and a tile or settings for each
-// number, through the operations, as the file `stdin` lists them. Each line says what is asked for
-// and whether the operation answered that.
+// Runs the cases of tiles, clocks and settings (§14.1 to §14.3), tiles at each tie between two letters
+// (§E3.1), and a tile or settings for each number, through the operations, as the file `stdin` lists
+// them. Each line says what is asked for and whether the operation answered that.
 use bytes::scan::find;
 use cases::Numbers;
 use libc::STDIN_FILENO;
@@ -37,7 +37,7 @@ fn right(kind: u8, count: usize, n: Numbers) -> bool {
     match kind {
         b's' => count == 8 && number(settings(n)) == n.7,
         b'k' | b't' => count == 3 && clock_right(kind, n.0, n.1, n.2),
-        _ => count == 18 && tile_right(kind, n),
+        _ => count == 19 && tile_right(kind, n),
     }
 }
 
@@ -86,11 +86,14 @@ fn clock_right(kind: u8, drift: u64, given: u64, expected: u64) -> bool {
 
 fn tile_right(kind: u8, n: Numbers) -> bool {
     let given = told(tile::forward(settings(n), stamps(n)));
-    n.7 < 4_294_967_296 && same(given, kind, signed(n.16), signed(n.17))
+    n.7 < 4_294_967_296 && same(given, kind, signed(n.16), signed(n.17), n.18)
 }
 
-fn same(given: Answer, kind: u8, first: i64, second: i64) -> bool {
-    kind == given.kind && first == given.first && second == given.second
+fn same(given: Answer, kind: u8, first: i64, second: i64, letter: u64) -> bool {
+    kind == given.kind
+        && first == given.first
+        && second == given.second
+        && letter == given.letter as u64
 }
 
 fn stamps(n: Numbers) -> Stamps {
@@ -114,24 +117,32 @@ struct Answer {
     kind: u8,
     first: i64,
     second: i64,
+    letter: u8,
 }
 
 fn told(forwarded: Forwarded) -> Answer {
     match forwarded {
-        Forwarded::Corrected { p, correction } => Answer {
+        Forwarded::Corrected {
+            p,
+            correction,
+            letter,
+        } => Answer {
             kind: b'c',
             first: p,
             second: correction,
+            letter: letter.byte(),
         },
-        Forwarded::Uncorrected { p } => Answer {
+        Forwarded::Uncorrected { p, letter } => Answer {
             kind: b'u',
             first: p,
             second: 0,
+            letter: letter.byte(),
         },
         Forwarded::Refused(number) => Answer {
             kind: b'r',
             first: number as i64,
             second: 0,
+            letter: 0,
         },
     }
 }

@@ -24,17 +24,17 @@ row-0 = replicate 6 1000
 unfoldable pub sound : Call
 sound =
     call (0 ∷ []) (replicate 6 0)
-    (100 ∷ 90 ∷ 90 ∷ 90 ∷ 100 ∷ 90 ∷ 90 ∷ 90 ∷ 100 ∷ 90 ∷ 90 ∷ 100 ∷ 90 ∷ 90 ∷ 90 ∷ 100 ∷ 90 ∷ 90 ∷ 90 ∷ 100 ∷ []) 6
+    (100 ∷ 90 ∷ 90 ∷ 90 ∷ 100 ∷ 90 ∷ 90 ∷ 90 ∷ 100 ∷ 90 ∷ 90 ∷ 100 ∷ 90 ∷ 90 ∷ 90 ∷ 100 ∷ 90 ∷ 90 ∷ 90 ∷ 100 ∷ []) 6 6
 
 -- §11.6 column 3 is marked, and its links to tiles 2 to 5 are arrivals at 0
 unfoldable pub broken : Call
 broken =
     call (8 ∷ []) (replicate 6 0)
-    (100 ∷ 90 ∷ 90 ∷ 90 ∷ 100 ∷ 90 ∷ 90 ∷ 90 ∷ 100 ∷ 0 ∷ 90 ∷ 0 ∷ 90 ∷ 90 ∷ 0 ∷ 100 ∷ 90 ∷ 0 ∷ 90 ∷ 100 ∷ []) 6
+    (100 ∷ 90 ∷ 90 ∷ 90 ∷ 100 ∷ 90 ∷ 90 ∷ 90 ∷ 100 ∷ 0 ∷ 90 ∷ 0 ∷ 90 ∷ 90 ∷ 0 ∷ 100 ∷ 90 ∷ 0 ∷ 90 ∷ 100 ∷ []) 6 6
 
 -- §11.3 a call of wrong lengths, which is turned away
 unfoldable pub stray : Call
-stray = call [] [] [] 0
+stray = call [] [] [] 0 0
 
 -- §11.6 the run without a faulty tile
 unfoldable pub first-run : List Call

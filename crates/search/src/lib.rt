@@ -1,23 +1,17 @@
 // The search range of a wall file, from one file descriptor to another: B of each row, the reach in the
 // later rows asked for, and the largest over the wall.
-use stages::Wall;
-use steps::Answer;
-use steps::rows::copy;
 use stream::Outcome;
 use stream::State;
 use stream::Turn;
 use stream::finish;
 use stream::ready;
-use telling::Told;
-use telling::tell;
-ghost use mathlib.Core.Path.{_≡_};
+use telling::step::step;
 ghost use Prim.Native.Nat.{_+_, _≤_};
 ghost use lib.ListN.{length, take};
-ghost use Rattle.stages.specs.Fit.{width-of};
 ghost use Rattle.lines.specs.Row.{step-room};
-ghost use Rattle.file.specs.Stands.{Stands};
 ghost use Rattle.stream.specs.State.{Between, Advanced, Ends, Comes-to};
-ghost use Rattle.search.specs.Search.{search-step, Tells};
+ghost use Rattle.row.specs.Row.{pulses};
+ghost use Rattle.search.specs.Search.{search-step};
 
 // A run between two steps, and the largest reach so far.
 struct Search {
@@ -39,6 +33,7 @@ pub fn run(from: i32, to: i32, asked: &[u64]) -> Found
     let mut output = io::large_buffer();
     let mut row = [0u64; 256];
     let mut next = [0u64; 256];
+    let mut letters = [0u8; 256];
     run_in(
         from,
         to,
@@ -46,6 +41,7 @@ pub fn run(from: i32, to: i32, asked: &[u64]) -> Found
         &mut input,
         &mut row,
         &mut next,
+        &mut letters,
         &mut output,
     )
 }
@@ -58,10 +54,11 @@ fn run_in(
     input: &mut [u8],
     row: &mut [u64],
     next: &mut [u64],
+    letters: &mut [u8],
     output: &mut [u8],
 ) -> Found
-    requires { ⌜ (6710 ≤ length (now input)) × (256 ≤ length (now row)) × (256 ≤ length (now next)) × (step-room ≤ length (now output)) ⌝ }
-    ensures { λ r. ⌜ Ends (search-step (take 16 (now (asked .entry)))) 0 (r .outcome) (r .largest) (now (row .exit)) (now (output .exit)) ⌝ }
+    requires { ⌜ (6710 ≤ length (now input)) × (256 ≤ length (now row)) × (256 ≤ length (now next)) × (256 ≤ length (now letters)) × (step-room ≤ length (now output)) ⌝ }
+    ensures { λ r. ⌜ Ends (search-step (take 16 (now (asked .entry)))) 0 (r .outcome) (r .largest) (pulses (now (row .exit)) (now (letters .exit))) (now (output .exit)) ⌝ }
 {
     let mut state = State::start();
     let mut largest = 0;
@@ -75,7 +72,7 @@ fn run_in(
         }
         match ready(from, to, state, due, input, output) {
             Turn::On(made) => {
-                let moved = advance(asked, made, largest, input, row, next, output);
+                let moved = advance(asked, made, largest, input, row, next, letters, output);
                 state = moved.state;
                 largest = moved.largest;
             }
@@ -97,10 +94,11 @@ fn advance(
     input: &[u8],
     row: &mut [u64],
     next: &mut [u64],
+    letters: &mut [u8],
     output: &mut [u8],
 ) -> Search
-    requires { ⌜ Between state (length (now input)) (length (now output)) × (256 ≤ length (now row)) × (256 ≤ length (now next)) × (state .text + step-room ≤ length (now output)) ⌝ }
-    ensures { λ r. ⌜ Advanced (search-step (take 16 (now (asked .entry)))) state largest (now (input .entry)) (now (row .entry)) (now (output .entry)) (r .state) (r .largest) (now (row .exit)) (now (output .exit)) ⌝ }
+    requires { ⌜ Between state (length (now input)) (length (now output)) × (256 ≤ length (now row)) × (256 ≤ length (now next)) × (256 ≤ length (now letters)) × (state .text + step-room ≤ length (now output)) ⌝ }
+    ensures { λ r. ⌜ Advanced (search-step (take 16 (now (asked .entry)))) state largest (now (input .entry)) (pulses (now (row .entry)) (now (letters .entry))) (now (output .entry)) (r .state) (r .largest) (pulses (now (row .exit)) (now (letters .exit))) (now (output .exit)) ⌝ }
 {
     let wall = state.wall;
     let window = state.window;
@@ -114,6 +112,7 @@ fn advance(
         &input[start..stop],
         &mut row[..width],
         &mut next[..width],
+        &mut letters[..width],
         output,
         state.text,
     );
@@ -121,34 +120,5 @@ fn advance(
     Search {
         state: state.stepped(stop, after, told.end),
         largest: told.largest,
-    }
-}
-
-// With the part, and rows of the wall's width. Tells what the step brought.
-fn step(
-    asked: &[u64],
-    wall: Wall,
-    largest: u64,
-    part: &[u8],
-    row: &mut [u64],
-    next: &mut [u64],
-    output: &mut [u8],
-    at: usize,
-) -> Told
-    requires { ⌜ Stands wall × (at + step-room ≤ length (now output)) ⌝ }
-    requires { ⌜ (length (now row) ≡ width-of wall) × (length (now next) ≡ width-of wall) × (length (now row) ≤ 256) ⌝ }
-    ensures { λ r. ⌜ Tells (take 16 (now (asked .entry))) wall largest (now (part .entry)) (now (row .entry)) (now (output .entry)) at r (now (row .exit)) (now (output .exit)) ⌝ }
-{
-    match steps::take(wall, part, row, next) {
-        Answer::Taken(taken) => {
-            let told = tell(asked, wall, taken, part, row, largest, output, at);
-            copy(next, row);
-            told
-        }
-        Answer::Unfit => Told {
-            wall,
-            largest,
-            end: at,
-        },
     }
 }

@@ -7,7 +7,7 @@ use Rattle.steps.specs.Shown.{Shown, lines, turned-away}
 
 -- §10.1 the lines of a row, or the line of a refusal
 unfoldable pub text-of : Shown → List ℕ
-text-of (lines w l ms ts) = row-text w l ms ts
+text-of (lines w l ms r) = row-text w l ms (r .times) (r .letters)
 text-of (turned-away n at) = refused-line n at
 
 -- §10.1 all that is shown, one after the other

@@ -11,27 +11,31 @@ ghost use Rattle.columns.specs.Marks.{mark-bytes};
 ghost use Rattle.tables.specs.Word.{Tables};
 ghost use Rattle.columns.specs.Wrote.{Wrote};
 ghost use Rattle.steps.specs.Shown.{row-shown, no-marks};
+ghost use Rattle.row.specs.Row.{pulses};
 ghost use Rattle.show.specs.Text.{texts-of};
 ghost use Rattle.steps.specs.Step.{step-of};
 ghost use Rattle.stages.specs.Fit.{place-fits, wall-fits};
 ghost use Rattle.lines.specs.Row.{step-room};
 ghost use Rattle.steps.specs.Take.{taken-of, Next-row};
 
-// Writes the text of a step that was taken, and its row in the place of the last; answers where the text ends.
+// Writes the text of a step that was taken, and its row, times and letters, in the place of the last; answers
+// where the text ends.
 pub fn show(
     tables: &[u64],
     wall: Wall,
     taken: Taken,
     part: &[u8],
     next: &[u64],
+    next_letters: &[u8],
     row: &mut [u64],
+    letters: &mut [u8],
     out: &mut [u8],
     at: usize,
 ) -> usize
-    requires { ⌜ Tables (now tables) × (wall-fits wall (length (now row)) ≡ true) × (at + step-room ≤ length (now out)) ⌝ }
-    requires { ⌜ (taken ≡ taken-of (step-of wall (now row) (now part))) × Next-row wall (now row) (now part) (now next) ⌝ }
-    ensures text { λ r. ⌜ Wrote (now (out .entry)) at (texts-of (step-of wall (now (row .entry)) (now (part .entry)) .shows)) (now (out .exit)) r ⌝ }
-    ensures row { λ r. ⌜ now (row .exit) ≡ step-of wall (now (row .entry)) (now (part .entry)) .row ⌝ }
+    requires { ⌜ Tables (now tables) × (wall-fits wall (length (now row)) ≡ true) × (wall-fits wall (length (now letters)) ≡ true) × (at + step-room ≤ length (now out)) ⌝ }
+    requires { ⌜ (taken ≡ taken-of (step-of wall (pulses (now row) (now letters)) (now part))) × Next-row wall (now row) (now part) (pulses (now next) (now «next_letters»)) ⌝ }
+    ensures text { λ r. ⌜ Wrote (now (out .entry)) at (texts-of (step-of wall (pulses (now (row .entry)) (now (letters .entry))) (now (part .entry)) .shows)) (now (out .exit)) r ⌝ }
+    ensures row { λ r. ⌜ pulses (now (row .exit)) (now (letters .exit)) ≡ step-of wall (pulses (now (row .entry)) (now (letters .entry))) (now (part .entry)) .row ⌝ }
 {
     let number = taken.number;
     if number != 0 {
@@ -45,11 +49,12 @@ pub fn show(
         }
         Wall::Row(place) => {
             let marks = fields::body((row.len() + 7) / 8, part);
-            let end = lines(tables, place, marks, row, out, at);
+            let end = lines(tables, place, marks, row, letters, out, at);
             copy(next, row);
+            bytes::copy(next_letters, letters);
             end
         }
-        Wall::End(place) => last_lines(tables, place, row, out, at),
+        Wall::End(place) => last_lines(tables, place, row, letters, out, at),
         Wall::Over => at,
     }
 }
@@ -60,24 +65,32 @@ fn lines(
     place: Place,
     marks: &[u8],
     row: &[u64],
+    letters: &[u8],
     out: &mut [u8],
     at: usize,
 ) -> usize
-    requires { ⌜ Tables (now tables) × (place-fits place (length (now row)) ≡ true) × (length (now marks) ≡ mark-bytes (length (now row))) × (at + step-room ≤ length (now out)) ⌝ }
-    ensures { λ r. ⌜ Wrote (now (out .entry)) at (texts-of (row-shown (place .settings) (place .row) (now (marks .entry)) (now (row .entry)))) (now (out .exit)) r ⌝ }
+    requires { ⌜ Tables (now tables) × (place-fits place (length (now row)) ≡ true) × (place-fits place (length (now letters)) ≡ true) × (length (now marks) ≡ mark-bytes (length (now row))) × (at + step-room ≤ length (now out)) ⌝ }
+    ensures { λ r. ⌜ Wrote (now (out .entry)) at (texts-of (row-shown (place .settings) (place .row) (now (marks .entry)) (pulses (now (row .entry)) (now (letters .entry))))) (now (out .exit)) r ⌝ }
 {
     if place.row == 0 {
         return at;
     }
-    text::row_lines(tables, row.len(), place.row, marks, row, out, at)
+    text::row_lines(tables, row.len(), place.row, marks, row, letters, out, at)
 }
 
 // The same of row R, where all tiles are correct.
-fn last_lines(tables: &[u64], place: Place, row: &[u64], out: &mut [u8], at: usize) -> usize
-    requires { ⌜ Tables (now tables) × (place-fits place (length (now row)) ≡ true) × (at + step-room ≤ length (now out)) ⌝ }
-    ensures { λ r. ⌜ Wrote (now (out .entry)) at (texts-of (row-shown (place .settings) (place .row) (no-marks (place .settings .width)) (now (row .entry)))) (now (out .exit)) r ⌝ }
+fn last_lines(
+    tables: &[u64],
+    place: Place,
+    row: &[u64],
+    letters: &[u8],
+    out: &mut [u8],
+    at: usize,
+) -> usize
+    requires { ⌜ Tables (now tables) × (place-fits place (length (now row)) ≡ true) × (place-fits place (length (now letters)) ≡ true) × (at + step-room ≤ length (now out)) ⌝ }
+    ensures { λ r. ⌜ Wrote (now (out .entry)) at (texts-of (row-shown (place .settings) (place .row) (no-marks (place .settings .width)) (pulses (now (row .entry)) (now (letters .entry))))) (now (out .exit)) r ⌝ }
 {
     let marks = [0u8; 32];
     let bytes = (row.len() + 7) / 8;
-    lines(tables, place, &marks[..bytes], row, out, at)
+    lines(tables, place, &marks[..bytes], row, letters, out, at)
 }

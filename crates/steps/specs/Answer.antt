@@ -5,7 +5,7 @@ use mathlib.Core.Option.{Option, none, some}
 use Prim.Native.Nat.{ℕ, suc, _+_}
 use lib.Dec.{eqb}
 use lib.ListN.{length}
-use Rattle.row.specs.Row.{row-of}
+use Rattle.row.specs.Row.{Pulses, pulses, next-pulses}
 use Rattle.fields.specs.Field.{body}
 use Rattle.contents.specs.Contents.{settings-size, settings-in, start-size, times-in, row-size, marks-in, call-in}
 use Rattle.stages.specs.Fit.{place}
@@ -56,18 +56,18 @@ wall-then (Row p) bs = after-row (p .settings) (suc (p .row)) (p .offset + row-s
 wall-then (End p) bs = Over
 wall-then Over bs = Over
 
--- §17.3 the row that is then written, row 0 or the next
-unfoldable pub row-then : Wall → (row part held : List ℕ) → List ℕ
+-- §17.3 the row that is then written, row 0 or the next; row 0 has no letters
+unfoldable pub row-then : Wall → (row part : List ℕ) → (held : Pulses) → Pulses
 row-then New ts bs held = held
-row-then (Start p) ts bs held = times-in (p .settings .width) (body (start-size (p .settings .width)) bs)
-row-then (Row p) ts bs held = row-of (p .settings) ts (call-in (p .settings .width) bs)
+row-then (Start p) ts bs held = pulses (times-in (p .settings .width) (body (start-size (p .settings .width)) bs)) (held .letters)
+row-then (Row p) ts bs held = next-pulses (p .settings) ts (call-in (p .settings .width) bs)
 row-then (End p) ts bs held = held
 row-then Over ts bs held = held
 
 -- §10.1 what is then shown: the last row, since the next is accepted or the file has ended as it should
-unfoldable pub shown-then : Wall → (row part : List ℕ) → List Shown
-shown-then New ts bs = []
-shown-then (Start p) ts bs = []
-shown-then (Row p) ts bs = row-shown (p .settings) (p .row) (marks-in (p .settings .width) bs) ts
-shown-then (End p) ts bs = row-shown (p .settings) (p .row) (no-marks (p .settings .width)) ts
-shown-then Over ts bs = []
+unfoldable pub shown-then : Wall → (row : Pulses) → (part : List ℕ) → List Shown
+shown-then New r bs = []
+shown-then (Start p) r bs = []
+shown-then (Row p) r bs = row-shown (p .settings) (p .row) (marks-in (p .settings .width) bs) r
+shown-then (End p) r bs = row-shown (p .settings) (p .row) (no-marks (p .settings .width)) r
+shown-then Over r bs = []

@@ -4,6 +4,7 @@ use mathlib.Core.Path.{_≡_}
 use mathlib.Core.List.{List, [], _∷_, _++_, map}
 use Prim.Native.Nat.{ℕ}
 use lib.ListN.{replicate}
+use Rattle.row.specs.Row.{pulses}
 use Rattle.stages.specs.declared.Place.{Place}
 use Rattle.stages.specs.declared.Wall.{Wall}
 use Rattle.stages.specs.declared.Wall.the-variants.{New, Start, Row, End}
@@ -74,4 +75,4 @@ step-cases =
 -- §9.8 each shows its refusal and nothing else; the row that is lent holds 1000 in each column
 unfoldable pub Step-cases-met : Type 0
 Step-cases-met =
-    map (λ x. step-of (x .due) (replicate 6 1000) (x .part) .shows) step-cases ≡ map (λ x. turned-away (x .number) (x .offset) ∷ []) step-cases
+    map (λ x. step-of (x .due) (pulses (replicate 6 1000) (replicate 6 7)) (x .part) .shows) step-cases ≡ map (λ x. turned-away (x .number) (x .offset) ∷ []) step-cases

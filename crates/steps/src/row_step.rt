@@ -10,14 +10,22 @@ ghost use mathlib.Core.Path.{_≡_};
 ghost use mathlib.Core.Bool.{true};
 ghost use Prim.Native.Nat.{_+_, _≤_};
 ghost use lib.ListN.{length};
+ghost use Rattle.row.specs.Row.{pulses};
 ghost use Rattle.steps.specs.Step.{row-step, after-row};
 ghost use Rattle.stages.specs.Fit.{place-fits};
 ghost use Rattle.steps.specs.Take.{taken-of, row-left};
 
-pub fn row(place: Place, part: &[u8], row: &[u64], links: &mut [u64], next: &mut [u64]) -> Taken
-    requires { ⌜ (place-fits place (length (now row)) ≡ true) × (place-fits place (length (now next)) ≡ true) × (770 ≤ length (now links)) ⌝ }
-    ensures taken { λ r. ⌜ r ≡ taken-of (row-step (place .settings) (place .row) (place .offset) (now (row .entry)) (now (part .entry))) ⌝ }
-    ensures row { λ r. ⌜ now (next .exit) ≡ row-left (row-step (place .settings) (place .row) (place .offset) (now (row .entry)) (now (part .entry))) (now (next .entry)) ⌝ }
+pub fn row(
+    place: Place,
+    part: &[u8],
+    row: &[u64],
+    links: &mut [u64],
+    next: &mut [u64],
+    letters: &mut [u8],
+) -> Taken
+    requires { ⌜ (place-fits place (length (now row)) ≡ true) × (place-fits place (length (now next)) ≡ true) × (place-fits place (length (now letters)) ≡ true) × (770 ≤ length (now links)) ⌝ }
+    ensures taken { λ r. ⌜ r ≡ taken-of (row-step (place .settings) (place .row) (place .offset) (pulses (now (row .entry)) (now (letters .entry))) (now (part .entry))) ⌝ }
+    ensures row { λ r. ⌜ pulses (now (next .exit)) (now (letters .exit)) ≡ row-left (row-step (place .settings) (place .row) (place .offset) (pulses (now (row .entry)) (now (letters .entry))) (now (part .entry))) (pulses (now (next .entry)) (now (letters .entry))) ⌝ }
 {
     let width = row.len();
     let marks = (width + 7) / 8;
@@ -26,7 +34,7 @@ pub fn row(place: Place, part: &[u8], row: &[u64], links: &mut [u64], next: &mut
         return refused(number, place.offset);
     }
     let settings = place.settings;
-    let number = plan(settings, part, row, links, next);
+    let number = plan(settings, part, row, links, next, letters);
     if number != 0 {
         return refused(number, place.offset + (3 + marks as u64));
     }

@@ -5,9 +5,9 @@ use stages::Place;
 use stages::Wall;
 ghost use mathlib.Core.Path.{_≡_};
 ghost use mathlib.Core.Bool.{true};
-ghost use mathlib.Core.List.{List};
-ghost use Prim.Native.Nat.{ℕ, _≤_};
+ghost use Prim.Native.Nat.{_≤_};
 ghost use lib.ListN.{length};
+ghost use Rattle.row.specs.Row.{Pulses, pulses};
 ghost use Rattle.steps.specs.Number.{start-number};
 ghost use Rattle.steps.specs.Step.{settings-step, start-step, end-step};
 ghost use Rattle.stages.specs.Fit.{place-fits};
@@ -15,7 +15,7 @@ ghost use Rattle.steps.specs.Take.{taken, taken-of, row-left};
 ghost use Rattle.stages.specs.declared.Wall.the-variants.{Over};
 
 pub fn settings(part: &[u8]) -> Taken
-    ensures { λ r. ⌜ ((row : List ℕ) → r ≡ taken-of (settings-step row (now (part .entry)))) ⌝ }
+    ensures { λ r. ⌜ ((row : Pulses) → r ≡ taken-of (settings-step row (now (part .entry)))) ⌝ }
 {
     let number = fields::refusal(1, 24, part);
     if number != 0 {
@@ -34,8 +34,8 @@ pub fn settings(part: &[u8]) -> Taken
 
 pub fn start(place: Place, part: &[u8], next: &mut [u64]) -> Taken
     requires { ⌜ place-fits place (length (now next)) ≡ true ⌝ }
-    ensures taken { λ r. ⌜ ((row : List ℕ) → r ≡ taken-of (start-step (place .settings) (place .offset) row (now (part .entry)))) ⌝ }
-    ensures row { λ r. ⌜ ((row : List ℕ) → now (next .exit) ≡ row-left (start-step (place .settings) (place .offset) row (now (part .entry))) (now (next .entry))) ⌝ }
+    ensures taken { λ r. ⌜ ((row : Pulses) → r ≡ taken-of (start-step (place .settings) (place .offset) row (now (part .entry)))) ⌝ }
+    ensures row { λ r. ⌜ ((row : Pulses) → pulses (now (next .exit)) (row .letters) ≡ row-left (start-step (place .settings) (place .offset) row (now (part .entry))) (pulses (now (next .entry)) (row .letters))) ⌝ }
 {
     let number = start_number(place, part);
     if number != 0 {
@@ -68,7 +68,7 @@ fn start_number(place: Place, part: &[u8]) -> u32
 }
 
 pub fn end(place: Place, part: &[u8]) -> Taken
-    ensures { λ r. ⌜ ((row : List ℕ) → r ≡ taken-of (end-step (place .settings) (place .row) (place .offset) row (now (part .entry)))) ⌝ }
+    ensures { λ r. ⌜ ((row : Pulses) → r ≡ taken-of (end-step (place .settings) (place .row) (place .offset) row (now (part .entry)))) ⌝ }
 {
     if part.len() != 0 {
         return refused(44, place.offset);

@@ -7,6 +7,7 @@ use lib.Dec.{ltb}
 use lib.ListN.{length, take}
 use Rattle.lines.specs.Row.{step-room}
 use Rattle.columns.specs.Wrote.{Wrote}
+use Rattle.row.specs.Row.{Pulses, cut}
 use Rattle.stages.specs.Fit.{due-of, width-of}
 use Rattle.window.specs.Window.{In-buffer, bytes-in, lacking, Filled-up}
 use Rattle.file.specs.Stands.{Stands}
@@ -60,18 +61,18 @@ unfoldable pub stepped : State → Wall → (text : ℕ) → State
 stepped s x n = record { wall = x; window = record { start = part-end s; end = s .window .end; ended = s .window .ended }; text = n }
 
 -- §16.4 what a step of the due part leaves: its text stands behind what stood in the buffer, and its row in the row's place, unless the wall is over
-pub record Advanced {K : Type 0} (step : Kind K) (s : State) (k : K) (input times output : List ℕ) (r : State) (l : K) (times-after output-after : List ℕ) : Type 0 where
-  pub state : r ≡ stepped s (brings step (s .wall) k times (bytes-in (s .window) input) .wall) (r .text)
-  pub keeps : l ≡ brings step (s .wall) k times (bytes-in (s .window) input) .keeps
+pub record Advanced {K : Type 0} (step : Kind K) (s : State) (k : K) (input : List ℕ) (lent : Pulses) (output : List ℕ) (r : State) (l : K) (lent-after : Pulses) (output-after : List ℕ) : Type 0 where
+  pub state : r ≡ stepped s (brings step (s .wall) k lent (bytes-in (s .window) input) .wall) (r .text)
+  pub keeps : l ≡ brings step (s .wall) k lent (bytes-in (s .window) input) .keeps
   pub row :
-      (brings step (s .wall) k times (bytes-in (s .window) input) .wall ≡ Over → ⊥) →
-      take (width-of (s .wall)) times-after ≡ brings step (s .wall) k times (bytes-in (s .window) input) .row
-  pub text : Wrote output (s .text) (brings step (s .wall) k times (bytes-in (s .window) input) .text) output-after (r .text)
+      (brings step (s .wall) k lent (bytes-in (s .window) input) .wall ≡ Over → ⊥) →
+      cut (width-of (s .wall)) lent-after ≡ brings step (s .wall) k lent (bytes-in (s .window) input) .row
+  pub text : Wrote output (s .text) (brings step (s .wall) k lent (bytes-in (s .window) input) .text) output-after (r .text)
 
 -- §16.4 a state that a chain of turns leads to, with what the buffers then hold
-pub record Standing {K : Type 0} (step : Kind K) (first : K) (s : State) (k : K) (input times output : List ℕ) : Type 0 where
+pub record Standing {K : Type 0} (step : Kind K) (first : K) (s : State) (k : K) (input : List ℕ) (lent : Pulses) (output : List ℕ) : Type 0 where
   pub between : Between s (length input) (length output)
-  pub ran : Ran step first (s .window .ended) (s .wall) k times (bytes-in (s .window) input) (take (s .text) output)
+  pub ran : Ran step first (s .window .ended) (s .wall) k lent (bytes-in (s .window) input) (take (s .text) output)
 
 -- §16.3 the last text is handed over, all of it, or the state is as it was
 unfoldable pub finished : State → Ended → (after : State) → Type 0
@@ -81,13 +82,13 @@ finished s WriteFailed r = r ≡ s
 
 -- §16.4 how a run ends: at a state that a chain of turns leads to, where the failed turn began if one failed. It is done only where the wall is
 -- over and all text is handed over.
-pub record Ends {K : Type 0} (step : Kind K) (first : K) (r : Outcome) (k : K) (times output : List ℕ) : Type 0 where
+pub record Ends {K : Type 0} (step : Kind K) (first : K) (r : Outcome) (k : K) (lent : Pulses) (output : List ℕ) : Type 0 where
   pub held : List ℕ
-  pub ran : Ran step first (r .state .window .ended) (r .state .wall) k times held (take (r .state .text) output)
+  pub ran : Ran step first (r .state .window .ended) (r .state .wall) k lent held (take (r .state .text) output)
   pub done : r .ended ≡ Done → (r .state .wall ≡ Over) × (r .state .text ≡ 0)
 
 -- §16.4 a run from its start comes to this, with buffers that are its own
 pub record Comes-to {K : Type 0} (step : Kind K) (first : K) (r : Outcome) (k : K) : Type 0 where
-  pub times : List ℕ
+  pub lent : Pulses
   pub output : List ℕ
-  pub ends : Ends step first r k times output
+  pub ends : Ends step first r k lent output

@@ -1,2 +1,3 @@
 -- The laws of the definitions, each file over one of them.
 pub mod Telling
+pub mod Step

@@ -8,6 +8,7 @@ use Rattle.reach.specs.Survey.{surveyed-of}
 use Rattle.reach.specs.declared.survey.Surveyed.{Surveyed}
 use Rattle.reach.specs.declared.survey.Surveyed.the-variants as surveyed
 use Rattle.lines.specs.Line.{refused-line}
+use Rattle.row.specs.Row.{pulses}
 use Rattle.contents.specs.Contents.{marks-in}
 use Rattle.steps.specs.Step.{step-of}
 use Rattle.steps.specs.Shown.{number-shown, offset-shown}
@@ -56,9 +57,9 @@ step-says asked (Row p) after m ts bs = row-says asked p after m (marks-in (p .s
 step-says asked (End p) after m ts bs = says after m (largest-text m)
 step-says asked Over after m ts bs = says after m []
 
--- §15.4 what a step tells: the refusal, or what its part lets be told
+-- §15.4 what a step tells: the refusal, or what its part lets be told; the letters of the row tell nothing
 unfoldable pub telling : (asked : List ℕ) → Wall → (largest : ℕ) → (row part : List ℕ) → Telling
 telling asked x m ts bs =
-    let o = step-of x ts bs in
+    let o = step-of x (pulses ts []) bs in
     cond (eqb (number-shown (o .shows)) 0) (step-says asked x (o .next) m ts bs)
     (says (o .next) m (refused-line (number-shown (o .shows)) (offset-shown (o .shows))))

@@ -1,4 +1,6 @@
 // What a step brought: nothing yet, a row's B and reach, a faulty tile, a refusal, or the largest reach.
+pub mod step;
+
 use columns::marked;
 use reach::survey::Surveyed;
 use reach::survey::survey;
@@ -17,6 +19,8 @@ ghost use Rattle.steps.specs.Step.{step-of};
 ghost use Rattle.stages.specs.Fit.{place-fits, wall-fits};
 ghost use Rattle.lines.specs.Row.{step-room};
 ghost use Rattle.steps.specs.Take.{taken-of};
+ghost use mathlib.Core.List.{[]};
+ghost use Rattle.row.specs.Row.{pulses};
 ghost use Rattle.telling.specs.Telling.{first-marked, row-says, telling};
 ghost use Rattle.telling.specs.Said.{Said};
 
@@ -38,7 +42,7 @@ pub fn tell(
     out: &mut [u8],
     at: usize,
 ) -> Told
-    requires { ⌜ (wall-fits wall (length (now row)) ≡ true) × (taken ≡ taken-of (step-of wall (now row) (now part))) × (at + step-room ≤ length (now out)) ⌝ }
+    requires { ⌜ (wall-fits wall (length (now row)) ≡ true) × (taken ≡ taken-of (step-of wall (pulses (now row) []) (now part))) × (at + step-room ≤ length (now out)) ⌝ }
     ensures { λ r. ⌜ Said (telling (take 16 (now (asked .entry))) wall largest (now (row .entry)) (now (part .entry))) r (now (out .entry)) at (now (out .exit)) ⌝ }
 {
     let after = taken.wall;

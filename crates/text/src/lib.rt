@@ -16,14 +16,25 @@ pub fn row_lines(
     row: u64,
     marks: &[u8],
     times: &[u64],
+    letters: &[u8],
     out: &mut [u8],
     at: usize,
 ) -> usize
     requires { ⌜ Tables (now tables) × (6 ≤ width) × (width ≤ 256) × (row ≤ 1024) ⌝ }
-    requires { ⌜ (length (now marks) ≡ mark-bytes width) × (length (now times) ≡ width) × (at + row-room width ≤ length (now out)) ⌝ }
-    ensures { λ r. ⌜ Wrote (now (out .entry)) at (row-text width row (now (marks .entry)) (now (times .entry))) (now (out .exit)) r ⌝ }
+    requires { ⌜ (length (now marks) ≡ mark-bytes width) × (length (now times) ≡ width) × (length (now letters) ≡ width) × (at + row-room width ≤ length (now out)) ⌝ }
+    ensures { λ r. ⌜ Wrote (now (out .entry)) at (row-text width row (now (marks .entry)) (now (times .entry)) (now (letters .entry))) (now (out .exit)) r ⌝ }
 {
     let mut codes = [0u64; 256];
-    let end = tiles(tables, width, row, marks, times, &mut codes, out, at);
+    let end = tiles(
+        tables,
+        width,
+        row,
+        marks,
+        times,
+        letters,
+        &mut codes,
+        out,
+        at,
+    );
     seams(tables, width, row, marks, times, &codes, out, end)
 }

@@ -14,8 +14,10 @@ use Rattle.settings.specs.Settings.{settings-refusal, step-of}
 use Rattle.rule.specs.Signed.{natural}
 use Rattle.rule.specs.Stamp.{Stamp, heard, silent, _≼_, earliest, latest, All, none, more, unheard-of, unheard-in, latest-stamp}
 use Rattle.rule.specs.Forward.{correction}
+use Rattle.rule.specs.Letter.{letter}
 use Rattle.rule.specs.Closed.{closed-P}
-use Rattle.tile.specs.Tile.{late-from, late-at, silences, silent-at, count-silent, answer, answered, forwarded, own-stamp, number-of, P-of, correction-of, stamp-from, stamp-at, reading-at, neighbour-places, neighbour-stamps, Readable, stamp-tests, tile-tests, tile-refusal}
+use Rattle.rule.specs.declared.letter.Letter.{Letter}
+use Rattle.tile.specs.Tile.{late-from, late-at, silences, silent-at, count-silent, answer, answered, forwarded, own-stamp, number-of, P-of, correction-of, letter-of, stamp-from, stamp-at, reading-at, neighbour-places, neighbour-stamps, Readable, stamp-tests, tile-tests, tile-refusal}
 use Rattle.settings.specs.declared.Settings.{Settings}
 use Rattle.tile.specs.declared.Forwarded.the-variants.{Corrected, Uncorrected, Refused}
 use Rattle.tile.specs.declared.Stamps.{Stamps}
@@ -54,11 +56,13 @@ abbrev pub closed-of : Settings → (own least most : Stamp) → ℕ
 closed-of s own l m = closed-P (s .unit) (step-of s) own l m
 
 module _ (s : Settings) (accepted : settings-refusal s ≡ 0) {l m : Stamp} (ordered : l ≼ m) where
-  pub answered-silent : answered s silent l m ≡ Uncorrected (pos (closed-of s silent l m))
+  pub answered-silent : answered s silent l m ≡ Uncorrected (pos (closed-of s silent l m)) (letter (s .unit) (step-of s) silent l m)
   unfolding answered answer correction
-  answered-silent = ap Uncorrected (rule-closed (limits s accepted .unit .0) (step-of s) silent ordered)
+  answered-silent = rw (rule-closed (limits s accepted .unit .0) (step-of s) silent ordered)
 
-  pub answered-heard : (o : ℕ) → answered s (heard o) l m ≡ Corrected (pos (closed-of s (heard o) l m)) (pos o -ℤ pos (closed-of s (heard o) l m))
+  pub answered-heard : (o : ℕ) →
+      answered s (heard o) l m
+      ≡ Corrected (pos (closed-of s (heard o) l m)) (pos o -ℤ pos (closed-of s (heard o) l m)) (letter (s .unit) (step-of s) (heard o) l m)
   unfolding answered answer correction
   answered-heard o = rw (rule-closed (limits s accepted .unit .0) (step-of s) (heard o) ordered)
 
@@ -165,20 +169,26 @@ module _ {s : Settings} {x : Stamps} (a : Accepted s x) where
       }))
 
 -- an answer's number and values
-pub answer-number : (p : ℤ) (c : Option ℤ) → number-of (answer p c) ≡ 0
-unfolding answer number-of
-answer-number p none = refl
-answer-number p (some c) = refl
+module _ (p : ℤ) (x : Letter) where
+  pub answer-number : (c : Option ℤ) → number-of (answer p c x) ≡ 0
+  unfolding answer number-of
+  answer-number none = refl
+  answer-number (some c) = refl
 
-pub answer-P : (p : ℤ) (c : Option ℤ) → P-of (answer p c) ≡ some p
-unfolding answer P-of
-answer-P p none = refl
-answer-P p (some c) = refl
+  pub answer-P : (c : Option ℤ) → P-of (answer p c x) ≡ some p
+  unfolding answer P-of
+  answer-P none = refl
+  answer-P (some c) = refl
 
-pub answer-correction : (p : ℤ) (c : Option ℤ) → correction-of (answer p c) ≡ c
-unfolding answer correction-of
-answer-correction p none = refl
-answer-correction p (some c) = refl
+  pub answer-correction : (c : Option ℤ) → correction-of (answer p c x) ≡ c
+  unfolding answer correction-of
+  answer-correction none = refl
+  answer-correction (some c) = refl
+
+  pub answer-letter : (c : Option ℤ) → letter-of (answer p c x) ≡ some x
+  unfolding answer letter-of
+  answer-letter none = refl
+  answer-letter (some c) = refl
 
 -- a tile that is not turned away, and one that is
 module _ (s : Settings) (x : Stamps) where

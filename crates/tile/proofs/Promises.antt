@@ -7,6 +7,7 @@ use Rattle.settings.specs.Settings.{step-of, checked}
 use Rattle.rule.specs.Stamp.{earlier, later, earliest, latest, latest-stamp}
 use Rattle.rule.specs.Signed.{natural}
 use Rattle.rule.specs.Forward.{P, correction}
+use Rattle.rule.specs.Pulse.{tile-letter}
 use Rattle.tile.specs.Tile.{silent-at, reading-at, stamp-from, stamp-at, own-stamp, neighbour-places, neighbour-stamps, tile-refusal, answered, number-of, correction-of}
 use Rattle.tile.specs.Cases.{reading-in, marked-in, stamps, heard as at}
 use Rattle.rule.specs.Promises.{Tile, P-exact}
@@ -18,7 +19,7 @@ use Rattle.settings.proofs.Laws.Settings.{limits, step-small}
 use Rattle.rule.proofs.Laws.Stamp.{earliest-by, latest-by}
 use Rattle.rule.proofs.Laws.Forward.{P-most}
 use Rattle.rule.proofs.Promises.{closed, p-exact}
-use Rattle.tile.proofs.Laws.{Accepted, accepted, stamped, answer-number, answer-P, answer-correction, forwarded-accepted, forwarded-refused, forwarded-alike}
+use Rattle.tile.proofs.Laws.{Accepted, accepted, stamped, answer-number, answer-P, answer-correction, answer-letter, forwarded-accepted, forwarded-refused, forwarded-alike}
 use Rattle.tile.proofs.Range.{corrected, late-own, early-own, late-accepted, early-accepted}
 
 -- a tile that is not turned away has stamps that the rule takes
@@ -26,15 +27,16 @@ tile-of : {s : Settings} {x : Stamps} → Accepted s x → Tile s (neighbour-sta
 tile-of a = record { checked = a .settings; two = stamped a .two }
 
 pub tile-answered : Tile-answered
-unfolding Tile-answered P-exact answered number-of
+unfolding Tile-answered P-exact answered number-of tile-letter
 tile-answered s x =
     let own = own-stamp x in
     let ns = neighbour-stamps x in
     let p = P (s .unit) (step-of s) own (earliest ns) (latest ns) in
-    let c = correction (s .unit) (step-of s) own (earliest ns) (latest ns) in (
-      by-zero (tile-refusal s x) (λ e. rw (forwarded-accepted s x e) (answer-number p c ∙ sym e)) (λ n. rw (forwarded-refused s x n)),
+    let c = correction (s .unit) (step-of s) own (earliest ns) (latest ns) in
+    let y = tile-letter s own ns in (
+      by-zero (tile-refusal s x) (λ e. rw (forwarded-accepted s x e) (answer-number p y c ∙ sym e)) (λ n. rw (forwarded-refused s x n)),
       λ e. rw (forwarded-accepted s x e)
-          (answer-P p c ∙ ap some (p-exact s own ns (tile-of (accepted s x e))), answer-correction p c),
+          (answer-P p y c ∙ ap some (p-exact s own ns (tile-of (accepted s x e))), answer-correction p y c, answer-letter p y c),
     )
 
 pub past-count : Past-count

@@ -9,6 +9,7 @@ use Rattle.settings.specs.Settings.{settings}
 use Rattle.tile.specs.Tile.{tile-refusal, forwarded}
 use Rattle.settings.specs.declared.Settings.{Settings}
 use Rattle.tile.specs.declared.Stamps.{Stamps}
+use Rattle.rule.specs.declared.letter.Letter.the-variants.{Kept, Early, Middle, Back, Late}
 use Rattle.tile.specs.declared.Forwarded.the-variants.{Corrected, Uncorrected, Refused}
 
 -- §6.1 what stands at a place: a reading, one below zero, or a mark of silence beside a reading
@@ -106,18 +107,18 @@ Tile-order =
     × (tile-refusal (settings 6 1 100 10 191 0 12) (stamps 1 (heard 100) (heard 100) (heard 100) (heard 100)) ≡ 9)
     × (tile-refusal (settings 5 1 100 10 400 0 12) (stamps 3 (silent 0) (silent 0) (heard 100) (heard 100)) ≡ 1)
 
--- §14.1 P and the correction of some of the cases, by two neighbours and by three; none where own is silent, and neither where the
--- tile is turned away
+-- §14.1 P, the correction and the letter of some of the cases, by two neighbours and by three; no correction where own is silent, and none of
+-- these where the tile is turned away
 unfoldable pub Answer-cases : Type 0
 Answer-cases =
-    (forwarded wall (stamps 2 (heard 100) (heard 100) (heard 100) (heard 900)) ≡ Corrected (pos 100) (pos 0))
-    × (forwarded wall (stamps 2 (heard 200) (heard 100) (heard 100) (heard 900)) ≡ Corrected (pos 136) (pos 64))
-    × (forwarded wall (stamps 2 (heard 63) (heard 100) (heard 100) (heard 0)) ≡ Corrected (pos 64) (negsuc 0))
-    × (forwarded wall (stamps 2 (heard 220) (heard 300) (heard 100) (heard 0)) ≡ Corrected (pos 208) (pos 12))
-    × (forwarded wall (stamps 3 (heard 110) (heard 50) (heard 100) (heard 0)) ≡ Corrected (pos 86) (pos 24))
-    × (forwarded wall (stamps 2 (silent 0) (heard 100) (heard 130) (heard 900)) ≡ Uncorrected (pos 166))
-    × (forwarded wall (stamps 3 (silent 0) (heard 100) (heard 120) (heard 130)) ≡ Uncorrected (pos 166))
-    × (forwarded wall (stamps 2 (heard 50) (silent 0) (heard 100) (heard 0)) ≡ Corrected (pos 64) (negsuc 13))
+    (forwarded wall (stamps 2 (heard 100) (heard 100) (heard 100) (heard 900)) ≡ Corrected (pos 100) (pos 0) Kept)
+    × (forwarded wall (stamps 2 (heard 200) (heard 100) (heard 100) (heard 900)) ≡ Corrected (pos 136) (pos 64) Late)
+    × (forwarded wall (stamps 2 (heard 63) (heard 100) (heard 100) (heard 0)) ≡ Corrected (pos 64) (negsuc 0) Early)
+    × (forwarded wall (stamps 2 (heard 220) (heard 300) (heard 100) (heard 0)) ≡ Corrected (pos 208) (pos 12) Middle)
+    × (forwarded wall (stamps 3 (heard 110) (heard 50) (heard 100) (heard 0)) ≡ Corrected (pos 86) (pos 24) Back)
+    × (forwarded wall (stamps 2 (silent 0) (heard 100) (heard 130) (heard 900)) ≡ Uncorrected (pos 166) Late)
+    × (forwarded wall (stamps 3 (silent 0) (heard 100) (heard 120) (heard 130)) ≡ Uncorrected (pos 166) Late)
+    × (forwarded wall (stamps 2 (heard 50) (silent 0) (heard 100) (heard 0)) ≡ Corrected (pos 64) (negsuc 13) Early)
     × (forwarded wall (stamps 1 (heard 100) (heard 100) (heard 100) (heard 100)) ≡ Refused 11)
     × (forwarded wall (stamps 2 (heard (2 ^ 41)) (heard 100) (heard 100) (heard 100)) ≡ Refused 12)
     × (forwarded wall (stamps 2 (silent 0) (silent 0) (heard 100) (heard 100)) ≡ Refused 13)
@@ -126,7 +127,7 @@ Answer-cases =
 unfoldable pub End-cases : Type 0
 End-cases =
     let most = 2 ^ 41 - 1 in
-    (forwarded wall (stamps 3 (heard most) (heard 0) (heard 0) (heard 0)) ≡ Corrected (pos 36) (pos 2199023255515))
-    × (forwarded wall (stamps 3 (heard 0) (heard most) (heard most) (heard most)) ≡ Corrected (pos 2199023255515) (negsuc 2199023255514))
-    × (forwarded wall (stamps 3 (silent 0) (heard most) (heard most) (heard most)) ≡ Uncorrected (pos 2199023255587))
-    × (forwarded wall (stamps 3 (heard 0) (heard 0) (heard 0) (heard 0)) ≡ Corrected (pos 0) (pos 0))
+    (forwarded wall (stamps 3 (heard most) (heard 0) (heard 0) (heard 0)) ≡ Corrected (pos 36) (pos 2199023255515) Late)
+    × (forwarded wall (stamps 3 (heard 0) (heard most) (heard most) (heard most)) ≡ Corrected (pos 2199023255515) (negsuc 2199023255514) Early)
+    × (forwarded wall (stamps 3 (silent 0) (heard most) (heard most) (heard most)) ≡ Uncorrected (pos 2199023255587) Late)
+    × (forwarded wall (stamps 3 (heard 0) (heard 0) (heard 0) (heard 0)) ≡ Corrected (pos 0) (pos 0) Kept)

@@ -11,20 +11,21 @@ use mir.Val.{SFits}
 use Rattle.settings.specs.Settings.{step-of, settings-refusal}
 use Rattle.rule.specs.Stamp.{earliest, latest, latest-stamp}
 use Rattle.rule.specs.Forward.{correction}
-use Rattle.tile.specs.Tile.{silent-at, reading-at, own-stamp, neighbour-stamps, tile-refusal, forwarded, number-of, P-of, correction-of}
+use Rattle.tile.specs.Tile.{silent-at, reading-at, own-stamp, neighbour-stamps, tile-refusal, forwarded, number-of, P-of, correction-of, letter-of}
 use Rattle.tile.specs.Cases.{heard, stamps}
-use Rattle.rule.specs.Pulse.{tile-P}
+use Rattle.rule.specs.Pulse.{tile-P, tile-letter}
 use Rattle.settings.specs.declared.Settings.{Settings}
 use Rattle.tile.specs.declared.Stamps.{Stamps}
 
--- §13.4 the answer has the tile's number; where that is 0 it has P and the correction of the rule
+-- §13.4 the answer has the tile's number; where that is 0 it has P, the correction and the letter (§E3.3) of the rule
 unfoldable pub Tile-answered : Type 0
 Tile-answered =
     (s : Settings) (x : Stamps) → (number-of (forwarded s x) ≡ tile-refusal s x)
     × (tile-refusal s x ≡ 0 →
     (P-of (forwarded s x) ≡ some (pos (tile-P s (own-stamp x) (neighbour-stamps x))))
     × (correction-of (forwarded s x)
-    ≡ correction (s .unit) (step-of s) (own-stamp x) (earliest (neighbour-stamps x)) (latest (neighbour-stamps x))))
+    ≡ correction (s .unit) (step-of s) (own-stamp x) (earliest (neighbour-stamps x)) (latest (neighbour-stamps x)))
+    × (letter-of (forwarded s x) ≡ some (tile-letter s (own-stamp x) (neighbour-stamps x))))
 
 -- §6.1 places past the count, and stamps of silent places, don't matter
 unfoldable pub Past-count : Type 0

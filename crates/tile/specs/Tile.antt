@@ -13,7 +13,9 @@ use Rattle.settings.specs.Settings.{step-of, settings-refusal}
 use Rattle.rule.specs.Signed.{natural}
 use Rattle.rule.specs.Stamp.{Stamp, heard, silent, earliest, latest, latest-stamp}
 use Rattle.rule.specs.Forward.{P, correction}
+use Rattle.rule.specs.Letter.{letter}
 use Rattle.settings.specs.declared.Settings.{Settings}
+use Rattle.rule.specs.declared.letter.Letter.{Letter}
 use Rattle.tile.specs.declared.Stamps.{Stamps}
 use Rattle.tile.specs.declared.Forwarded.{Forwarded}
 use Rattle.tile.specs.declared.Forwarded.the-variants.{Corrected, Uncorrected, Refused}
@@ -92,14 +94,17 @@ pub record Readable (x : Stamps) : Type 0 where
   pub count-most : x .count ≤ 3
   pub on-time : any-below (suc (x .count)) (late-at x) ≡ false
 
--- §6.3 P with a correction, or with none
-unfoldable pub answer : ℤ → Option ℤ → Forwarded
-answer p (some c) = Corrected p c
-answer p none = Uncorrected p
+-- §6.3 P with a correction, or with none; §E3.3 and the letter
+unfoldable pub answer : ℤ → Option ℤ → Letter → Forwarded
+answer p (some c) x = Corrected p c x
+answer p none x = Uncorrected p x
 
--- §6.3 P and the correction that the rule gives for own, min and max
+-- §6.3 P, the correction and the letter that the rule gives for own, min and max
 unfoldable pub answered : Settings → (own least most : Stamp) → Forwarded
-answered s own l m = answer (P (s .unit) (step-of s) own l m) (correction (s .unit) (step-of s) own l m)
+answered s own l m =
+    let h = s .unit in
+    let j = step-of s in
+    answer (P h j own l m) (correction h j own l m) (letter h j own l m)
 
 -- §6.3 what the rule gives for a tile's stamps, or its number
 unfoldable pub forwarded : Settings → Stamps → Forwarded
@@ -109,18 +114,24 @@ forwarded s x =
 
 -- §13.3 the number of an answer, 0 where it has P
 unfoldable pub number-of : Forwarded → ℕ
-number-of (Corrected p c) = 0
-number-of (Uncorrected p) = 0
+number-of (Corrected p c x) = 0
+number-of (Uncorrected p x) = 0
 number-of (Refused n) = n
 
 -- §13.3 P of an answer, where it has one
 unfoldable pub P-of : Forwarded → Option ℤ
-P-of (Corrected p c) = some p
-P-of (Uncorrected p) = some p
+P-of (Corrected p c x) = some p
+P-of (Uncorrected p x) = some p
 P-of (Refused n) = none
 
 -- §13.3 the correction of an answer, where it has one
 unfoldable pub correction-of : Forwarded → Option ℤ
-correction-of (Corrected p c) = some c
-correction-of (Uncorrected p) = none
+correction-of (Corrected p c x) = some c
+correction-of (Uncorrected p x) = none
 correction-of (Refused n) = none
+
+-- §E3.3 the letter of an answer, where it has P
+unfoldable pub letter-of : Forwarded → Option Letter
+letter-of (Corrected p c x) = some x
+letter-of (Uncorrected p x) = some x
+letter-of (Refused n) = none

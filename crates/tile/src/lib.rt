@@ -1,5 +1,6 @@
-// One tile: P and the correction, from the stamps of its predecessors.
+// One tile: P, the correction and the letter of what fixed P, from the stamps of its predecessors.
 use rule::forwarding;
+use rule::letter::Letter;
 use settings::Settings;
 use settings::rounding::larger;
 use settings::rounding::smaller;
@@ -21,10 +22,17 @@ pub struct Stamps {
 }
 
 pub enum Forwarded {
-    // P, and own's stamp less P.
-    Corrected { p: i64, correction: i64 },
+    // P, own's stamp less P, and what fixed P.
+    Corrected {
+        p: i64,
+        correction: i64,
+        letter: Letter,
+    },
     // P where own is silent.
-    Uncorrected { p: i64 },
+    Uncorrected {
+        p: i64,
+        letter: Letter,
+    },
     // 1 to 9, or 11 to 13.
     Refused(u32),
 }
@@ -140,24 +148,28 @@ fn most(stamps: Stamps) -> u64
     larger(two, code(stamps, 3))
 }
 
-// P and the correction, for checked settings and stamps.
+// P, the correction and the letter, for checked settings and stamps.
 fn answer(settings: Settings, own: u64, least: u64, most: u64) -> Forwarded
     requires { ⌜ settings-refusal settings ≡ 0 ⌝ }
     requires { ⌜ Forwardable (settings .unit) (step-of settings) own least most ⌝ }
     ensures { λ r. ⌜ r ≡ answered settings (stamp-of own) (stamp-of least) (stamp-of most) ⌝ }
 {
-    let p = forwarding::adopted(
+    let fixed = forwarding::adopted(
         settings.unit,
         settings::step(settings.unit, settings.drift),
         own,
         least,
         most,
     );
+    let p = fixed.p as i64;
+    let letter = fixed.letter;
     if own == forwarding::SILENT {
-        return Forwarded::Uncorrected { p: p as i64 };
+        return Forwarded::Uncorrected { p, letter };
     }
+    let correction = own as i64 - p;
     Forwarded::Corrected {
-        p: p as i64,
-        correction: own as i64 - p as i64,
+        p,
+        correction,
+        letter,
     }
 }

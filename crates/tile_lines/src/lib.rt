@@ -12,11 +12,13 @@ use words::eight_digits;
 use words::head::Head;
 use words::put;
 ghost use mathlib.Core.Path.{_≡_};
+ghost use mathlib.Core.List.{[], _∷_};
 ghost use mathlib.Core.Logic.{_⊎_};
 ghost use Prim.Native.Nat.{_+_, _*_, _≤_, _<_};
 ghost use lib.ListN.{length};
 ghost use Rattle.columns.specs.Marks.{mark-bytes};
 ghost use Rattle.lines.specs.Number.{decimal};
+ghost use Rattle.lines.specs.Line.{space, line-end};
 ghost use Rattle.lines.specs.Row.{each-below, tile-text};
 ghost use Rattle.tables.specs.Word.{bytes, Tables};
 ghost use Rattle.tile_lines.specs.Near.{Serves, Right};
@@ -39,13 +41,14 @@ pub fn tiles(
     row: u64,
     marks: &[u8],
     times: &[u64],
+    letters: &[u8],
     codes: &mut [u64],
     out: &mut [u8],
     at: usize,
 ) -> usize
-    requires { ⌜ Tables (now tables) × (width ≤ 256) × (row ≤ 1024) × (length (now marks) ≡ mark-bytes width) × (length (now times) ≡ width) ⌝ }
-    requires { ⌜ (width ≤ length (now codes)) × (at + 32 * width ≤ length (now out)) ⌝ }
-    ensures { λ r. ⌜ Wrote (now (out .entry)) at (each-below width (tile-text row (now (marks .entry)) (now (times .entry)))) (now (out .exit)) r ⌝ }
+    requires { ⌜ Tables (now tables) × (width ≤ 256) × (row ≤ 1024) × (length (now marks) ≡ mark-bytes width) × (length (now times) ≡ width) × (length (now letters) ≡ width) ⌝ }
+    requires { ⌜ (width ≤ length (now codes)) × (at + 34 * width ≤ length (now out)) ⌝ }
+    ensures { λ r. ⌜ Wrote (now (out .entry)) at (each-below width (tile-text row (now (marks .entry)) (now (times .entry)) (now (letters .entry)))) (now (out .exit)) r ⌝ }
     ensures { λ _. ⌜ Coded (now (codes .exit)) (now (marks .entry)) (now (times .entry)) width ⌝ }
 {
     let head = Head::of(116, row);
@@ -55,8 +58,9 @@ pub fn tiles(
     while c < width {
         let faulty = marked(marks, c);
         let time = times[c];
+        let letter = letters[c];
         codes[c] = code(faulty, time);
-        let written = tile(tables, head, near, c, faulty, time, out, end);
+        let written = tile(tables, head, near, c, faulty, time, letter, out, end);
         let next = written.near;
         near = next;
         end = written.end;
@@ -74,7 +78,7 @@ fn code(faulty: bool, time: u64) -> u64
     time
 }
 
-// The line of a tile.
+// The line of a tile. A faulty one has no letter.
 fn tile(
     tables: &[u64],
     head: Head,
@@ -82,11 +86,12 @@ fn tile(
     column: usize,
     faulty: bool,
     time: u64,
+    letter: u8,
     out: &mut [u8],
     at: usize,
 ) -> Written
-    requires { ⌜ Tables (now tables) × Right near × (head .length ≤ 7) × (column ≤ 255) × (at + 32 ≤ length (now out)) ⌝ }
-    ensures { λ r. ⌜ Wrote (now (out .entry)) at (tile-after (bytes (head .length) (head .word)) column faulty time) (now (out .exit)) (r .end) ⌝ }
+    requires { ⌜ Tables (now tables) × Right near × (head .length ≤ 7) × (column ≤ 255) × (at + 34 ≤ length (now out)) ⌝ }
+    ensures { λ r. ⌜ Wrote (now (out .entry)) at (tile-after (bytes (head .length) (head .word)) column faulty time letter) (now (out .exit)) (r .end) ⌝ }
     ensures { λ r. ⌜ Right (r .near) ⌝ }
 {
     put(head.word, out, at);
@@ -99,8 +104,18 @@ fn tile(
     }
     let served = near.to(time);
     let digits = near_digits(tables, served, time, out, place);
-    let end = byte(b'\n', out, digits);
+    let end = lettered(letter, out, digits);
     Written { near: served, end }
+}
+
+// A space, a letter and the end of the line.
+fn lettered(letter: u8, out: &mut [u8], at: usize) -> usize
+    requires { ⌜ at + 3 ≤ length (now out) ⌝ }
+    ensures { λ r. ⌜ Wrote (now (out .entry)) at (space ∷ letter ∷ line-end ∷ []) (now (out .exit)) r ⌝ }
+{
+    let spaced = byte(b' ', out, at);
+    let next = byte(letter, out, spaced);
+    byte(b'\n', out, next)
 }
 
 // The digits of a time that is served, and of any other.

@@ -6,6 +6,7 @@ use mathlib.Core.Option.{some}
 use Prim.Native.Nat.{ℕ, _+_}
 use lib.ListN.{length}
 use Rattle.lines.specs.Line.{refused-line}
+use Rattle.row.specs.Row.{Pulses}
 use Rattle.show.specs.Text.{text-of, texts-of}
 use Rattle.steps.specs.Answer.{number-due, offset-due, wall-then, shown-then}
 use Rattle.steps.specs.Step.{Stepped, stepped, away, step-of}
@@ -18,8 +19,8 @@ use Rattle.wall.specs.declared.Answer.{Answer}
 use Rattle.wall.specs.declared.Answer.the-variants as step
 
 -- a call that fits is answered by its step
-module _ (x : Wall) (part row held : List ℕ) (at : ℕ) (answer : Answer) (row-after out : List ℕ) (d : Stepping x part row held at answer row-after out)
-    (e : fits x (length row) (length held) at ≡ true) where
+module _ (x : Wall) (part : List ℕ) (row : Pulses) (held : List ℕ) (at : ℕ) (answer : Answer) (row-after : Pulses) (out : List ℕ) (d : Stepping x part row held at answer row-after out)
+    (e : fits x row (length held) at ≡ true) where
   by-step : (next : Wall) (text : List ℕ) → step-of x row part .next ≡ next → texts-of (step-of x row part .shows) ≡ text → Answered held at answer out next text
   unfolding wall-of end-of went-to
   by-step next text n t =
@@ -34,11 +35,11 @@ module _ (x : Wall) (part row held : List ℕ) (at : ℕ) (answer : Answer) (row
   row-is = rw e at (d .row-left)
 
 -- the parts of a step
-next-of : (o : Stepped) (x : Wall) (ts : List ℕ) (xs : _) → o ≡ stepped x ts xs → (o .next ≡ x) × (o .row ≡ ts) × (o .shows ≡ xs)
+next-of : (o : Stepped) (x : Wall) (ts : Pulses) (xs : _) → o ≡ stepped x ts xs → (o .next ≡ x) × (o .row ≡ ts) × (o .shows ≡ xs)
 unfolding stepped
 next-of o x ts xs e = rw e (refl, refl, refl)
 
-away-of : (o : Stepped) (ts : List ℕ) (n at : ℕ) → o ≡ away ts n at → (o .next ≡ Over) × (o .row ≡ ts) × (texts-of (o .shows) ≡ refused-line n at)
+away-of : (o : Stepped) (ts : Pulses) (n at : ℕ) → o ≡ away ts n at → (o .next ≡ Over) × (o .row ≡ ts) × (texts-of (o .shows) ≡ refused-line n at)
 unfolding away stepped texts-of text-of
 away-of o ts n at e = rw e (refl, refl, append-nil (refused-line n at))
 
@@ -52,7 +53,7 @@ step-answered x part row held at answer row-after out d = (
     row-is x part row held at answer row-after out d e ∙ o .1,
   ),
   λ e k. let o = away-of _ _ _ _ (step-away row part x k) in (
-    by-step x part row held at answer row-after out d e Over (refused-line (number-due x row part) (offset-due x part)) (o .0) (o .2),
+    by-step x part row held at answer row-after out d e Over (refused-line (number-due x (row .times) part) (offset-due x part)) (o .0) (o .2),
     row-is x part row held at answer row-after out d e ∙ o .1,
   ),
 )

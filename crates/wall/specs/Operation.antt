@@ -7,6 +7,7 @@ use Prim.Native.Nat.{ℕ, _+_}
 use lib.Dec.{leb}
 use lib.ListN.{length}
 use Rattle.columns.specs.Wrote.{Wrote}
+use Rattle.row.specs.Row.{Pulses}
 use Rattle.show.specs.Text.{texts-of}
 use Rattle.steps.specs.Step.{Stepped, step-of}
 use Rattle.stages.specs.declared.Wall.{Wall}
@@ -16,9 +17,9 @@ use Rattle.wall.specs.declared.Answer.the-variants as step
 use Rattle.stages.specs.Fit.{wall-fits}
 use Rattle.lines.specs.Row.{step-room}
 
--- §17.3 whether the row fits the wall, and the buffer has room for the text of any step
-unfoldable pub fits : Wall → (row room at : ℕ) → Bool
-fits x n room at = leb (at + step-room) room && wall-fits x n
+-- §17.3 whether the row fits the wall, its times and its letters (§E3.6), and the buffer has room for the text of any step
+unfoldable pub fits : Wall → (row : Pulses) → (room at : ℕ) → Bool
+fits x r room at = leb (at + step-room) room && (wall-fits x (length (r .letters)) && wall-fits x (length (r .times)))
 
 -- §13.3 the wall of a step, and where its text ends
 unfoldable pub went-to : Stepped → (at : ℕ) → Went
@@ -35,10 +36,10 @@ end-of (step.Went w) = some (w .end)
 end-of step.Unfit = none
 
 -- §13.4 what the operation answers and leaves: a step of the definition where all fits, otherwise nothing has changed
-pub record Stepping (x : Wall) (part row held : List ℕ) (at : ℕ) (answer : Answer) (row-after out : List ℕ) : Type 0 where
-  pub answered : answer ≡ cond (fits x (length row) (length held) at) (step.Went (went-to (step-of x row part) at)) step.Unfit
-  pub row-left : row-after ≡ cond (fits x (length row) (length held) at) (step-of x row part .row) row
+pub record Stepping (x : Wall) (part : List ℕ) (row : Pulses) (held : List ℕ) (at : ℕ) (answer : Answer) (row-after : Pulses) (out : List ℕ) : Type 0 where
+  pub answered : answer ≡ cond (fits x row (length held) at) (step.Went (went-to (step-of x row part) at)) step.Unfit
+  pub row-left : row-after ≡ cond (fits x row (length held) at) (step-of x row part .row) row
   pub text :
-      fits x (length row) (length held) at ≡ true →
+      fits x row (length held) at ≡ true →
       Wrote held at (texts-of (step-of x row part .shows)) out (at + length (texts-of (step-of x row part .shows)))
-  pub kept : fits x (length row) (length held) at ≡ false → out ≡ held
+  pub kept : fits x row (length held) at ≡ false → out ≡ held

@@ -8,6 +8,7 @@ use Prim.Native.Nat.{ℕ, _+_}
 use lib.ListN.{length}
 use Rattle.lines.specs.Line.{refused-line}
 use Rattle.columns.specs.Wrote.{Wrote}
+use Rattle.row.specs.Row.{Pulses}
 use Rattle.show.specs.Text.{texts-of}
 use Rattle.steps.specs.Answer.{number-due, offset-due, wall-then, row-then, shown-then}
 use Rattle.stages.specs.declared.Wall.{Wall}
@@ -25,9 +26,9 @@ pub record Answered (held : List ℕ) (at : ℕ) (answer : Answer) (out : List �
 -- turned away the text is the refusal's line, and the row is as it was
 unfoldable pub Step-answered : Type 0
 Step-answered =
-    (x : Wall) (part row held : List ℕ) (at : ℕ) (answer : Answer) (row-after out : List ℕ) → Stepping x part row held at answer row-after out →
-    (fits x (length row) (length held) at ≡ false → (wall-of answer ≡ none) × (end-of answer ≡ none) × (row-after ≡ row) × (out ≡ held))
-    × (fits x (length row) (length held) at ≡ true → number-due x row part ≡ 0 →
-    Answered held at answer out (wall-then x part) (texts-of (shown-then x row part)) × (row-after ≡ row-then x row part row))
-    × (fits x (length row) (length held) at ≡ true → (number-due x row part ≡ 0 → ⊥) →
-    Answered held at answer out Over (refused-line (number-due x row part) (offset-due x part)) × (row-after ≡ row))
+    (x : Wall) (part : List ℕ) (row : Pulses) (held : List ℕ) (at : ℕ) (answer : Answer) (row-after : Pulses) (out : List ℕ) → Stepping x part row held at answer row-after out →
+    (fits x row (length held) at ≡ false → (wall-of answer ≡ none) × (end-of answer ≡ none) × (row-after ≡ row) × (out ≡ held))
+    × (fits x row (length held) at ≡ true → number-due x (row .times) part ≡ 0 →
+    Answered held at answer out (wall-then x part) (texts-of (shown-then x row part)) × (row-after ≡ row-then x (row .times) part row))
+    × (fits x row (length held) at ≡ true → (number-due x (row .times) part ≡ 0 → ⊥) →
+    Answered held at answer out Over (refused-line (number-due x (row .times) part) (offset-due x part)) × (row-after ≡ row))

@@ -1,9 +1,10 @@
--- What a step of a wall file answers and leaves: the number, the wall, the row that it writes and the offset of a refusal. Assumes nothing.
+-- What a step of a wall file answers and leaves: the number, the wall, the rows that it writes and the offset of a refusal. Assumes nothing.
 use mathlib.Core.Bool.{cond}
 use mathlib.Core.List.{List}
 use Prim.Native.Nat.{ℕ}
 use lib.Dec.{eqb}
 use lib.ListN.{length, getD}
+use Rattle.row.specs.Row.{Pulses}
 use Rattle.stages.specs.declared.Wall.the-variants.{Over}
 use Rattle.steps.specs.Take.{taken, answer-of, row-after}
 use Rattle.steps.specs.declared.Answer.{Answer}
@@ -11,14 +12,14 @@ use Rattle.steps.specs.declared.Answer.the-variants as take
 use Rattle.layout.specs.Words.{unfit, place-in, wall-in, wall-words, refused-words, refused-number, takes}
 
 -- §17.3 a file that is turned away is turned away again; words that are no wall's, and a part longer than is due, are unfit
-unfoldable pub step-answer : (words part row : List ℕ) → (next : ℕ) → Answer
-step-answer ws bs ts n =
+unfoldable pub step-answer : (words part row : List ℕ) → (held : Pulses) → Answer
+step-answer ws bs ts held =
     cond (eqb (refused-number ws) 0)
-    (cond (takes ws (length bs)) (answer-of (wall-in ws) bs ts n) take.Unfit)
+    (cond (takes ws (length bs)) (answer-of (wall-in ws) bs ts held) take.Unfit)
     (take.Taken (taken Over (refused-number ws) (getD ws 9 0)))
 
--- §17.3 the row that it writes
-unfoldable pub next-left : (words part row held : List ℕ) → List ℕ
+-- §17.3 the rows that it writes, of times and of letters
+unfoldable pub next-left : (words part row : List ℕ) → (held : Pulses) → Pulses
 next-left ws bs ts held =
     cond (eqb (refused-number ws) 0) (cond (takes ws (length bs)) (row-after (wall-in ws) bs ts held) held) held
 

@@ -10,7 +10,7 @@ use stages::Wall;
 use steps::Answer;
 use steps::Taken;
 ghost use mathlib.Core.Path.{_≡_};
-ghost use lib.ListN.{length};
+ghost use Rattle.row.specs.Row.{pulses};
 ghost use Rattle.wall_calls.specs.Answers.{step-answer, next-left, step-number, wall-left, offset-left};
 
 // Takes the due part of a wall file.
@@ -19,14 +19,15 @@ pub fn step(
     part: &[u8],
     row: &[u64],
     next: &mut [u64],
+    letters: &mut [u8],
     offset: &mut u64,
 ) -> u32
-    ensures number { λ r. ⌜ r ≡ step-number (step-answer (now (wall .entry)) (now (part .entry)) (now (row .entry)) (length (now (next .entry)))) ⌝ }
-    ensures wall { λ r. ⌜ now (wall .exit) ≡ wall-left (step-answer (now (wall .entry)) (now (part .entry)) (now (row .entry)) (length (now (next .entry)))) (now (wall .entry)) ⌝ }
-    ensures next { λ r. ⌜ now (next .exit) ≡ next-left (now (wall .entry)) (now (part .entry)) (now (row .entry)) (now (next .entry)) ⌝ }
-    ensures offset { λ r. ⌜ now (offset .exit) ≡ offset-left (step-answer (now (wall .entry)) (now (part .entry)) (now (row .entry)) (length (now (next .entry)))) (now (offset .entry)) ⌝ }
+    ensures number { λ r. ⌜ r ≡ step-number (step-answer (now (wall .entry)) (now (part .entry)) (now (row .entry)) (pulses (now (next .entry)) (now (letters .entry)))) ⌝ }
+    ensures wall { λ r. ⌜ now (wall .exit) ≡ wall-left (step-answer (now (wall .entry)) (now (part .entry)) (now (row .entry)) (pulses (now (next .entry)) (now (letters .entry)))) (now (wall .entry)) ⌝ }
+    ensures next { λ r. ⌜ pulses (now (next .exit)) (now (letters .exit)) ≡ next-left (now (wall .entry)) (now (part .entry)) (now (row .entry)) (pulses (now (next .entry)) (now (letters .entry))) ⌝ }
+    ensures offset { λ r. ⌜ now (offset .exit) ≡ offset-left (step-answer (now (wall .entry)) (now (part .entry)) (now (row .entry)) (pulses (now (next .entry)) (now (letters .entry)))) (now (offset .entry)) ⌝ }
 {
-    match stepped(wall, part, row, next) {
+    match stepped(wall, part, row, next, letters) {
         Answer::Taken(taken) => {
             let place = place_in(wall);
             let number = taken.number;
@@ -45,20 +46,27 @@ pub fn step(
 }
 
 // A file that is turned away is turned away again, whatever it is given.
-fn stepped(wall: &[u64; 10], part: &[u8], row: &[u64], next: &mut [u64]) -> Answer
-    ensures answer { λ r. ⌜ r ≡ step-answer (now (wall .entry)) (now (part .entry)) (now (row .entry)) (length (now (next .entry))) ⌝ }
-    ensures next { λ r. ⌜ now (next .exit) ≡ next-left (now (wall .entry)) (now (part .entry)) (now (row .entry)) (now (next .entry)) ⌝ }
+fn stepped(
+    wall: &[u64; 10],
+    part: &[u8],
+    row: &[u64],
+    next: &mut [u64],
+    letters: &mut [u8],
+) -> Answer
+    ensures answer { λ r. ⌜ r ≡ step-answer (now (wall .entry)) (now (part .entry)) (now (row .entry)) (pulses (now (next .entry)) (now (letters .entry))) ⌝ }
+    ensures next { λ r. ⌜ pulses (now (next .exit)) (now (letters .exit)) ≡ next-left (now (wall .entry)) (now (part .entry)) (now (row .entry)) (pulses (now (next .entry)) (now (letters .entry))) ⌝ }
 {
     let number = refused_number(wall);
     if number != 0 {
+        let offset = wall[9];
         return Answer::Taken(Taken {
             wall: Wall::Over,
             number,
-            offset: wall[9],
+            offset,
         });
     }
     if takes(wall, part.len()) {
-        return steps::take(wall_in(wall), part, row, next);
+        return steps::take(wall_in(wall), part, row, next, letters);
     }
     Answer::Unfit
 }

@@ -1,10 +1,11 @@
 //! Named wall files, the same each time, for a program to be run on: every number that a file can be
-//! refused with, each place where a file can end, the limits, and faults at the edges.
+//! refused with, each place where a file can end, the limits, faults at the edges, and every letter.
 
 pub(crate) mod build;
 mod contents;
 mod faults;
 mod framing;
+mod letters;
 mod settings;
 
 /// A wall file and its name.
@@ -31,5 +32,6 @@ pub fn all() -> Vec<Case> {
     cases.extend(framing::cases());
     cases.extend(contents::cases());
     cases.extend(faults::cases());
+    cases.extend(letters::cases());
     cases
 }

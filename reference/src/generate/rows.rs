@@ -129,11 +129,11 @@ fn run_rows(
     for _ in 0..wall.settings().rows() {
         let row = make(&before);
         let links = row.flat_links();
-        let mut written = vec![0; before.len()];
-        wall.row(&row.lent(&before, &links), &mut written)
+        let (mut times, mut letters) = (vec![0; before.len()], vec![0; before.len()]);
+        wall.row(&row.lent(&before, &links), &mut times, &mut letters)
             .expect("a sound row");
         rows.push(row);
-        before = written;
+        before = times;
     }
     Description {
         numbers: wall.settings().numbers(),

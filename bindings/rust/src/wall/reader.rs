@@ -15,11 +15,13 @@ use std::{error, fmt};
 ///
 /// ```
 /// use polzaintu::wall::{Error, Reader};
+/// use polzaintu::Letter;
 ///
 /// let file = std::fs::read(concat!(env!("CARGO_MANIFEST_DIR"), "/../../crates/wallrun/stdin"))?;
 /// for row in Reader::new(&file[..]) {
 ///     let row = row?;
 ///     assert_eq!((row.number(), row.pulse(3)), (1, Some(1536)));
+///     assert_eq!(row.letter(3), Some(Letter::Late));
 ///     assert_eq!(row.seams().count(), 7);
 /// }
 ///

@@ -1,24 +1,25 @@
-//! A row as it is shown: its times, which of its tiles are faulty, and its seams.
+//! A row as it is shown: its times and letters, which of its tiles are faulty, and its seams.
 
+use super::Pulses;
 use crate::seam::{self, RowSeam};
-use crate::{row, Settings};
+use crate::{row, Letter, Settings};
 
 /// A row of an accepted part of a wall file, 1 to R.
 #[derive(Clone, Debug, PartialEq, Eq)]
 pub struct Row {
     settings: Settings,
     number: u64,
-    times: Vec<u64>,
+    pulses: Pulses,
     marks: Vec<u8>,
 }
 
 impl Row {
     /// The lengths are those of the settings.
-    pub(super) fn new(settings: Settings, number: u64, times: &[u64], marks: &[u8]) -> Row {
+    pub(super) fn new(settings: Settings, number: u64, pulses: &Pulses, marks: &[u8]) -> Row {
         Row {
             settings,
             number,
-            times: times.to_vec(),
+            pulses: pulses.clone(),
             marks: marks.to_vec(),
         }
     }
@@ -38,7 +39,13 @@ impl Row {
     /// The W times that were worked out, a faulty tile's too.
     #[must_use]
     pub fn times(&self) -> &[u64] {
-        &self.times
+        &self.pulses.times
+    }
+
+    /// The W letters, a faulty tile's too: which rule fixed each of the times.
+    #[must_use]
+    pub fn letters(&self) -> &[Letter] {
+        &self.pulses.letters
     }
 
     /// The fault marks, as [`row::Lent`] has them. The last row has none set.
@@ -54,13 +61,24 @@ impl Row {
     /// Where the row has no such column.
     #[must_use]
     pub fn pulse(&self, column: usize) -> Option<u64> {
-        let time = self.times[column];
+        let time = self.times()[column];
         (!self.faulty(column)).then_some(time)
+    }
+
+    /// The letter of a correct tile, as `wallrun` prints it; `None` where the tile is faulty.
+    ///
+    /// # Panics
+    ///
+    /// Where the row has no such column.
+    #[must_use]
+    pub fn letter(&self, column: usize) -> Option<Letter> {
+        let letter = self.letters()[column];
+        (!self.faulty(column)).then_some(letter)
     }
 
     /// The first faulty tile's column.
     pub(super) fn first_faulty(&self) -> Option<usize> {
-        (0..self.times.len()).find(|&column| self.faulty(column))
+        (0..self.times().len()).find(|&column| self.faulty(column))
     }
 
     fn faulty(&self, column: usize) -> bool {
@@ -70,8 +88,8 @@ impl Row {
 
     /// The row's W + 1 seams, in the order of `wallrun`'s lines.
     pub fn seams(&self) -> impl Iterator<Item = RowSeam> + '_ {
-        (0..=self.times.len()).map(|place| {
-            let seam = seam::row_seam(&self.settings, &self.times, &self.marks, place);
+        (0..=self.times().len()).map(|place| {
+            let seam = seam::row_seam(&self.settings, self.times(), &self.marks, place);
             let seam = seam.expect("a file's times stay below 2^41");
             seam.expect("a row has W + 1 seams")
         })

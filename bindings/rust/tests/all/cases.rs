@@ -12,9 +12,9 @@ fn repository() -> PathBuf {
 
 fn row_lines(row: &Row) -> Vec<String> {
     let number = row.number();
-    let tile = |column| match row.pulse(column) {
-        Some(time) => format!("t {number} {column} {time}"),
-        None => format!("t {number} {column} -"),
+    let tile = |column| match (row.pulse(column), row.letter(column)) {
+        (Some(time), Some(letter)) => format!("t {number} {column} {time} {letter}"),
+        _ => format!("t {number} {column} -"),
     };
     let seam = |RowSeam { left, right, seam }| match seam {
         Seam::Closed { midpoint, half_gap } => {

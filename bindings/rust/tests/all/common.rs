@@ -1,6 +1,6 @@
 //! What the tests share: settings to start from, the shape of a row, and a small wall file.
 
-use polzaintu::{Limits, Settings};
+use polzaintu::{Letter, Limits, Settings};
 
 /// The settings of the printed wall.
 pub const PRINTED: Limits = Limits {
@@ -53,6 +53,11 @@ pub fn refused_settings() -> impl Iterator<Item = (Limits, u32)> {
     refused
         .into_iter()
         .map(|(given, number)| (limits(given), number))
+}
+
+/// Letters as text.
+pub fn letters(letters: &[Letter]) -> String {
+    letters.iter().map(|letter| letter.as_char()).collect()
 }
 
 pub fn neighbours(width: usize, a: usize, b: usize) -> bool {

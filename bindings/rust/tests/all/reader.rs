@@ -1,6 +1,6 @@
 //! The reader: bytes that come in pieces, and a read that fails, which is no refusal.
 
-use crate::common::{settings, WallFile, LAST_TAG_4, TAG_2};
+use crate::common::{letters, settings, WallFile, LAST_TAG_4, TAG_2};
 use polzaintu::reach::{widest_gap, Survey};
 use polzaintu::row::SILENT;
 use polzaintu::wall::{Error, Reader, Row, SearchError, Tile};
@@ -48,6 +48,8 @@ fn pieces_are_put_together() {
     let bytes = WallFile::small().bytes();
     let whole = rows(&bytes[..]);
     assert_eq!(whole.iter().map(Row::number).collect::<Vec<_>>(), [1, 2]);
+    let lettered: Vec<_> = whole.iter().map(|row| letters(row.letters())).collect();
+    assert_eq!(lettered, ["kkklkk", "kkkmkk"]);
     assert_eq!(rows(Halting::new(&bytes, false)), whole);
 }
 

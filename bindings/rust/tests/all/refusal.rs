@@ -6,7 +6,7 @@ use polzaintu::seam;
 use polzaintu::tile::{self, Stamps};
 use polzaintu::wall::{Reader, Wall};
 use polzaintu::waves::Waves;
-use polzaintu::{Refusal, Settings};
+use polzaintu::{Letter, Refusal, Settings};
 use std::error::Error as _;
 
 /// The words of a number in `bindings/numbers.tsv`.
@@ -60,7 +60,8 @@ fn row(marks: u8, time: u64, drift: u32, link: u64, length: usize) -> Refusal {
         drifts: &[drift; 6],
         links: &[link; 20],
     };
-    row::plan(&settings(PRINTED), lent, &mut vec![0; length]).unwrap_err()
+    let (times, letters) = (&mut vec![0; length], &mut [Letter::Kept; 6]);
+    row::plan(&settings(PRINTED), lent, times, letters).unwrap_err()
 }
 
 #[test]

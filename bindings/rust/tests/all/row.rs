@@ -1,8 +1,8 @@
-//! A row: times worked out by hand, numbers 21 to 26 and the order between them.
+//! A row: times and letters worked out by hand, numbers 21 to 26 and the order between them.
 
-use crate::common::{hears, links, settings, PRINTED};
+use crate::common::{hears, letters, links, settings, PRINTED};
 use polzaintu::row::{self, Ends, Lent, SILENT};
-use polzaintu::Limits;
+use polzaintu::{Letter, Limits};
 
 const LATEST: u64 = (1 << 40) - 1;
 
@@ -15,6 +15,7 @@ struct Call {
     drifts: Vec<u32>,
     links: Vec<u64>,
     times: Vec<u64>,
+    letters: Vec<Letter>,
 }
 
 impl Call {
@@ -30,6 +31,7 @@ impl Call {
             drifts: vec![0; width],
             links: vec![100; 3 * width + 2],
             times: (0..width as u64).map(|c| 0xa5a5 + 31 * c).collect(),
+            letters: (0..width).map(|c| Letter::ALL[c % 5]).collect(),
         }
     }
 
@@ -47,31 +49,37 @@ impl Call {
         }
     }
 
-    fn run(&self, times: &mut [u64]) -> Result<Ends, u32> {
+    fn run(&self, times: &mut [u64], letters: &mut [Letter]) -> Result<Ends, u32> {
         let lent = Lent {
             before: &self.before,
             marks: &self.marks,
             drifts: &self.drifts,
             links: &self.links,
         };
-        row::plan(&settings(self.limits), lent, times).map_err(|refusal| refusal.number())
+        row::plan(&settings(self.limits), lent, times, letters).map_err(|refusal| refusal.number())
     }
 
-    fn planned(&self, expected: &[u64], earliest: u64, latest: u64) {
-        let mut times = self.times.clone();
-        assert_eq!(self.run(&mut times), Ok(Ends { earliest, latest }));
+    fn planned(&self, expected: &[u64], expected_letters: &str, earliest: u64, latest: u64) {
+        let (mut times, mut written) = (self.times.clone(), self.letters.clone());
+        let ends = self.run(&mut times, &mut written);
+        assert_eq!(ends, Ok(Ends { earliest, latest }));
         assert_eq!(times, expected);
+        assert_eq!(letters(&written), expected_letters);
     }
 
-    fn accepted(&self) {
-        assert!(self.run(&mut self.times.clone()).is_ok());
+    /// The letters of a call that is accepted.
+    fn accepted(&self) -> Vec<Letter> {
+        let (mut times, mut letters) = (self.times.clone(), self.letters.clone());
+        assert!(self.run(&mut times, &mut letters).is_ok());
+        letters
     }
 
-    /// The call is turned away, and the row to be written holds what it held.
+    /// The call is turned away, and the rows to be written hold what they held.
     fn refused(&self, number: u32) {
-        let mut times = self.times.clone();
-        assert_eq!(self.run(&mut times), Err(number));
+        let (mut times, mut letters) = (self.times.clone(), self.letters.clone());
+        assert_eq!(self.run(&mut times, &mut letters), Err(number));
         assert_eq!(times, self.times);
+        assert_eq!(letters, self.letters);
     }
 }
 
@@ -79,7 +87,7 @@ impl Call {
 fn printed_wall() {
     let mut call = Call::quiet(6);
     call.before[3] = 1080;
-    call.planned(&[1500, 1500, 1500, 1536, 1500, 1500], 1500, 1536);
+    call.planned(&[1500, 1500, 1500, 1536, 1500, 1500], "kkklkk", 1500, 1536);
 }
 
 /// A clock of drift 10,000 reads 1111 at 1100, and first reads 1511 at 1497.
@@ -93,7 +101,7 @@ fn drifts_round() {
     };
     call.drifts[1] = 10_000;
     call.drifts[5] = 10_000;
-    call.planned(&[1500, 1497, 1500, 1500, 1500, 1497], 1497, 1500);
+    call.planned(&[1500, 1497, 1500, 1500, 1500, 1497], "kkkkkk", 1497, 1500);
 }
 
 /// Column 3 is heard by tiles 2 to 5.
@@ -103,10 +111,34 @@ fn faults() {
     call.before[3] = u64::MAX;
     for late in [SILENT, LATEST] {
         call.fault(3, late);
-        call.planned(&[1500, 1500, 1500, 1536, 1500, 1500], 1500, 1536);
+        call.planned(&[1500, 1500, 1500, 1536, 1500, 1500], "kkklkk", 1500, 1536);
     }
     call.fault(3, 0);
-    call.planned(&[1500, 1500, 1476, 1464, 1476, 1476], 1464, 1500);
+    call.planned(&[1500, 1500, 1476, 1464, 1476, 1476], "kkbebb", 1464, 1500);
+}
+
+/// One column at each border between two letters, all others at 1000: h is 12 and J is 24.
+#[test]
+fn letters_by_column() {
+    let borders = [
+        (963, Letter::Early),
+        (964, Letter::Kept),
+        (1011, Letter::Kept),
+        (1012, Letter::Middle),
+        (1036, Letter::Middle),
+        (1037, Letter::Back),
+        (1060, Letter::Back),
+        (1061, Letter::Late),
+    ];
+    for width in [6, 24] {
+        for (own, letter) in borders {
+            for column in 0..width {
+                let mut call = Call::quiet(width);
+                call.before[column] = own;
+                assert_eq!(call.accepted()[column], letter, "{own} in {column}");
+            }
+        }
+    }
 }
 
 #[test]
@@ -129,6 +161,7 @@ fn wrong_lengths() {
         tried(call, |call| &mut call.drifts);
         tried(call, |call| &mut call.links);
         tried(call, |call| &mut call.times);
+        tried(call, |call| &mut call.letters);
     }
 }
 

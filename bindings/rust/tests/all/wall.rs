@@ -1,10 +1,10 @@
 //! A wall file by steps: what each step leaves, and every number with its offset.
 
-use crate::common::{refused_settings, settings, FileRow, WallFile};
+use crate::common::{letters, refused_settings, settings, FileRow, WallFile};
 use crate::common::{END, LAST_TAG_3, LAST_TAG_4, TAG_2, TAG_3, TAG_4};
 use polzaintu::row::SILENT;
 use polzaintu::wall::{Row, Stage, Wall};
-use polzaintu::Limits;
+use polzaintu::{Letter, Limits};
 
 const FIELDS: [usize; 6] = [0, TAG_2, TAG_3, TAG_4, LAST_TAG_3, LAST_TAG_4];
 
@@ -25,6 +25,7 @@ fn run(bytes: &[u8]) -> (Vec<Row>, Option<(u32, usize)>) {
             Err(refused) => {
                 assert_eq!((wall.stage(), wall.due()), (Stage::Refused, 0));
                 assert!(wall.settings().is_none() && wall.last_row().is_none());
+                assert!(wall.last_letters().is_none());
                 for part in [&[], bytes] {
                     let again = wall.step(part).unwrap_err();
                     let (number, offset) = (again.refusal.number(), again.offset as usize);
@@ -59,31 +60,36 @@ fn accepted_wall() {
     assert_eq!(step(&mut wall, &bytes, &mut taken), Ok(None));
     assert_eq!((wall.stage(), wall.due()), (Stage::Start, 3 + 48));
     assert_eq!(wall.settings(), Some(settings(file.limits)));
-    assert_eq!(wall.last_row(), None);
+    assert_eq!((wall.last_row(), wall.last_letters()), (None, None));
 
     assert_eq!(step(&mut wall, &bytes, &mut taken), Ok(None));
     assert_eq!((wall.stage(), wall.due()), (Stage::Row, 4 + 3 + 172));
     assert_eq!(wall.last_row(), Some((0, &file.start[..])));
+    assert_eq!(wall.last_letters(), None);
 
     assert_eq!(step(&mut wall, &bytes, &mut taken), Ok(None));
     let row_1 = [1500, 1500, 1500, 1536, 1500, 1500];
     assert_eq!(wall.last_row(), Some((1, &row_1[..])));
+    assert_eq!(wall.last_letters().map(letters).unwrap(), "kkklkk");
 
     let shown = step(&mut wall, &bytes, &mut taken).unwrap().unwrap();
     assert_eq!(
         (shown.number(), shown.times(), shown.marks()),
         (1, &row_1[..], &[0][..])
     );
+    assert_eq!(letters(shown.letters()), "kkklkk");
     assert_eq!((wall.stage(), wall.due()), (Stage::End, 1));
     // Tile 3's own stamp is 1636, its neighbours' are 1600: D is 24, P is 1612.
     let row_2 = [2000, 2000, 2000, 2012, 2000, 2000];
     assert_eq!(wall.last_row(), Some((2, &row_2[..])));
+    assert_eq!(wall.last_letters().map(letters).unwrap(), "kkkmkk");
 
     let shown = step(&mut wall, &bytes, &mut taken).unwrap().unwrap();
     assert_eq!(
         (shown.number(), shown.times(), shown.marks()),
         (2, &row_2[..], &[0][..])
     );
+    assert_eq!(letters(shown.letters()), "kkkmkk");
     assert_eq!((wall.stage(), wall.due()), (Stage::Ended, 0));
     assert!(wall.step(&[]).unwrap().is_none());
     assert_eq!((wall.stage(), wall.due()), (Stage::Ended, 0));
@@ -115,8 +121,12 @@ fn faulty_tile() {
     assert_eq!(rows[0].marks(), [1 << 3]);
     assert_eq!(rows[0].times()[3], 1536);
     assert_eq!((rows[0].pulse(2), rows[0].pulse(3)), (Some(1500), None));
+    assert_eq!(letters(rows[0].letters()), "kkklkk");
+    let shown = (rows[0].letter(2), rows[0].letter(3));
+    assert_eq!(shown, (Some(Letter::Kept), None));
     assert_eq!(rows[1].times(), [2000, 2000, 2000, 2036, 2000, 2000]);
     assert_eq!(rows[1].marks(), [0]);
+    assert_eq!(rows[1].letter(3), Some(Letter::Late));
 }
 
 #[test]

@@ -1,17 +1,22 @@
 //! Lists of row calls: the rows of a wall, each from what the newest accepted call wrote, with
 //! spoiled ones between them.
 
-use crate::{Answer, Difference, Tally};
-use polzaintu::{row, Limits, Settings};
+mod names;
+
+pub use names::ANSWERS;
+
+use crate::{Difference, Tally};
+use polzaintu::{row, Letter, Limits, Settings};
 use wall_reference::generate::describe::Description;
 use wall_reference::generate::rng::Rng;
 use wall_reference::generate::{numbers, rows, spoil};
 use wall_reference::row::{Lent, Wall};
 use wall_reference::settings::{self, Numbers};
-use wall_reference::shape::{are_neighbours, is_marked};
+use wall_reference::shape::is_marked;
 use wall_reference::{Refused, LATEST_ARRIVAL};
 
-/// All that a call is lent; `times` is the row to write, with what it holds before the call.
+/// All that a call is lent; `times` and `letters` are the rows to write, with what they hold before
+/// the call.
 #[derive(Debug)]
 struct Call {
     settings: Numbers,
@@ -20,116 +25,21 @@ struct Call {
     drifts: Vec<u32>,
     links: Vec<u64>,
     times: Vec<u64>,
+    letters: Vec<Letter>,
 }
 
-/// The answer, with the row to write as it is after the call.
+/// The answer, with the rows to write as they are after the call, the letters as text.
 #[derive(Debug, PartialEq, Eq)]
 struct Answered {
     ends: Result<Ends, u32>,
     times: Vec<u64>,
+    letters: String,
 }
 
 #[derive(Debug, PartialEq, Eq)]
 struct Ends {
     earliest: u64,
     latest: u64,
-}
-
-/// Each answer by its names. Those of a written row say which tile has its earliest or latest time,
-/// where one tile alone has it. Plain tiles are away from the ends and hear correct tiles only.
-pub const ANSWERS: [&str; 21] = [
-    "earliest in the first tile",
-    "earliest in the last tile",
-    "earliest inside",
-    "earliest after a faulty tile",
-    "earliest in the first of eight plain tiles",
-    "earliest in the last of eight plain tiles",
-    "earliest amid eight plain tiles",
-    "latest in the first tile",
-    "latest in the last tile",
-    "latest inside",
-    "latest after a faulty tile",
-    "latest in the first of eight plain tiles",
-    "latest in the last of eight plain tiles",
-    "latest amid eight plain tiles",
-    "all tiles at once",
-    "21",
-    "22",
-    "23",
-    "24",
-    "25",
-    "26",
-];
-
-impl Answer for Answered {
-    type Call = Call;
-
-    fn names(&self, call: &Call) -> Vec<&'static str> {
-        let ends = match &self.ends {
-            Ok(ends) if ends.earliest == ends.latest => return vec!["all tiles at once"],
-            Ok(ends) => [ends.earliest, ends.latest],
-            Err(21) => return vec!["21"],
-            Err(22) => return vec!["22"],
-            Err(23) => return vec!["23"],
-            Err(24) => return vec!["24"],
-            Err(25) => return vec!["25"],
-            Err(26) => return vec!["26"],
-            Err(_) => return vec!["another number"],
-        };
-        let mut names = Vec::new();
-        for (which, end) in ends.into_iter().enumerate() {
-            let mut tiles = (0..self.times.len()).filter(|&c| self.times[c] == end);
-            if let (Some(column), None) = (tiles.next(), tiles.next()) {
-                names.extend(call.places(column).iter().map(|place| place[which]));
-            }
-        }
-        names
-    }
-}
-
-impl Call {
-    /// Where a tile stands: pairs of names, one for the earliest there and one for the latest.
-    fn places(&self, column: usize) -> Vec<[&'static str; 2]> {
-        let last = self.before.len() - 1;
-        let mut places = vec![match column {
-            0 => ["earliest in the first tile", "latest in the first tile"],
-            _ if column == last => ["earliest in the last tile", "latest in the last tile"],
-            _ => ["earliest inside", "latest inside"],
-        }];
-        if self.hears_a_faulty_tile(column) {
-            places.push(["earliest after a faulty tile", "latest after a faulty tile"]);
-        }
-        if self.is_one_of_eight(column) {
-            places.push(match column % 8 {
-                0 => [
-                    "earliest in the first of eight plain tiles",
-                    "latest in the first of eight plain tiles",
-                ],
-                7 => [
-                    "earliest in the last of eight plain tiles",
-                    "latest in the last of eight plain tiles",
-                ],
-                _ => [
-                    "earliest amid eight plain tiles",
-                    "latest amid eight plain tiles",
-                ],
-            });
-        }
-        places
-    }
-
-    fn hears_a_faulty_tile(&self, column: usize) -> bool {
-        let w = self.before.len();
-        let hears = |sender| sender == column || are_neighbours(w, column, sender);
-        (0..w).any(|sender| is_marked(&self.marks, sender) && hears(sender))
-    }
-
-    /// Whether the eight tiles of the column's byte of marks are plain.
-    fn is_one_of_eight(&self, column: usize) -> bool {
-        let first = column / 8 * 8;
-        let away = first > 0 && first + 8 <= self.before.len() - 3;
-        away && (first - 1..=first + 8).all(|sender| !is_marked(&self.marks, sender))
-    }
 }
 
 /// Runs the list of a seed through both.
@@ -171,7 +81,8 @@ fn by_reference(wall: &Wall, call: &Call) -> Answered {
         links: &call.links,
     };
     let mut times = call.times.clone();
-    let ends = wall.row(&lent, &mut times);
+    let mut letters: Vec<u8> = call.letters.iter().map(|letter| letter.byte()).collect();
+    let ends = wall.row(&lent, &mut times, &mut letters);
     let ends = ends.map(|ends| Ends {
         earliest: ends.earliest,
         latest: ends.latest,
@@ -179,6 +90,7 @@ fn by_reference(wall: &Wall, call: &Call) -> Answered {
     Answered {
         ends: ends.map_err(|Refused(number)| number.into()),
         times,
+        letters: letters.into_iter().map(char::from).collect(),
     }
 }
 
@@ -198,8 +110,9 @@ fn by_library(call: &Call) -> Answered {
         drifts: &call.drifts,
         links: &call.links,
     };
-    let mut times = call.times.clone();
-    let ends = settings.and_then(|settings| row::plan(&settings, lent, &mut times));
+    let (mut times, mut letters) = (call.times.clone(), call.letters.clone());
+    let plan = |settings: Settings| row::plan(&settings, lent, &mut times, &mut letters);
+    let ends = settings.and_then(plan);
     let ends = ends.map(|ends| Ends {
         earliest: ends.earliest,
         latest: ends.latest,
@@ -207,6 +120,7 @@ fn by_library(call: &Call) -> Answered {
     Answered {
         ends: ends.map_err(|refusal| refusal.number()),
         times,
+        letters: letters.into_iter().map(Letter::as_char).collect(),
     }
 }
 
@@ -227,7 +141,8 @@ fn described(rng: &mut Rng) -> Description {
 }
 
 impl Call {
-    /// A row of the wall, with any times for faulty tiles of the row before and in the row to write.
+    /// A row of the wall, with any times for faulty tiles of the row before, and any times and letters
+    /// in the rows to write.
     fn new(rng: &mut Rng, wall: &Description, index: usize, before: &[u64]) -> Call {
         let row = &wall.rows[index];
         let mut before = before.to_vec();
@@ -238,9 +153,12 @@ impl Call {
             let random = rng.next_u64();
             rng.pick(&[0, u64::MAX, random])
         });
+        let times = held.collect();
+        let letters = before.iter().map(|_| rng.pick(&Letter::ALL)).collect();
         Call {
             settings: wall.numbers,
-            times: held.collect(),
+            times,
+            letters,
             before,
             marks: row.marks.clone(),
             drifts: row.drifts.iter().map(|&drift| drift.into()).collect(),
@@ -289,12 +207,13 @@ impl Call {
             }
         }
         let longer = rng.chance(50);
-        match rng.below(5) {
+        match rng.below(6) {
             0 => resize(&mut self.before, longer),
             1 => resize(&mut self.marks, longer),
             2 => resize(&mut self.drifts, longer),
             3 => resize(&mut self.links, longer),
-            _ => resize(&mut self.times, longer),
+            4 => resize(&mut self.times, longer),
+            _ => resize(&mut self.letters, longer),
         }
     }
 }

@@ -23,7 +23,7 @@ use Rattle.columns.proofs.Laws.Lists.{none-of}
 
 -- the lengths of what is lent
 abbrev pub Lengths : (w : ℕ) → List ℕ → Call → Type 0
-Lengths w ts x = Sized w (length ts) (length (x .marks)) (length (x .drifts)) (length (x .links)) (x .room)
+Lengths w ts x = Sized w (length ts) (length (x .marks)) (length (x .drifts)) (length (x .links)) (x .room) (x .letter-room)
 
 pub record Accepted (s : Settings) (ts : List ℕ) (x : Call) : Type 0 where
   pub settings : settings-refusal s ≡ 0
@@ -41,7 +41,7 @@ pub record Accepted (s : Settings) (ts : List ℕ) (x : Call) : Type 0 where
 
 lengths-of : (w : ℕ) (ts : List ℕ) (x : Call) → lengths-right w ts x ≡ true → Lengths w ts x
 unfolding lengths-right
-lengths-of w ts x e = sized w (length ts) (length (x .marks)) (length (x .drifts)) (length (x .links)) (x .room) e
+lengths-of w ts x e = sized w (length ts) (length (x .marks)) (length (x .drifts)) (length (x .links)) (x .room) (x .letter-room) e
 
 time-of : (t : ℕ) (m : Bool) → m ≡ false → (not m && ltb latest-time t) ≡ false → t ≤ latest-time
 time-of t m p e = ltb-false latest-time t (rw p at e)

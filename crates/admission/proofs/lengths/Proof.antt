@@ -52,15 +52,31 @@ returns-4 c =
 returns-5 : tie.Need-returns-5
 unfolding lengths-are mark-bytes
 returns-5 c =
-    let e = c .before .before in
+    let f = c .before .before in
+    let e = f .before in
     let a = e .before .before .args in
     rw (
       eq-eqb (a .before) (a .width) (e .before .if1 .left),
       eq-eqb (a .marks) ((a .width + 7) / 8) (e .if2 .left),
-      eq-eqb (a .drifts) (a .width) (c .before .if3 .left),
-      eq-eqb (a .links) (3 * a .width + 2) (c .if4 .left),
+      eq-eqb (a .drifts) (a .width) (f .if3 .left),
+      eq-eqb (a .links) (3 * a .width + 2) (c .before .if4 .left),
+      ne-eqb (a .room) (a .width) (c .if5 .taken),
+    )
+
+returns-6 : tie.Need-returns-6
+unfolding lengths-are mark-bytes
+returns-6 c =
+    let f = c .before .before in
+    let e = f .before in
+    let a = e .before .before .args in
+    rw (
+      eq-eqb (a .before) (a .width) (e .before .if1 .left),
+      eq-eqb (a .marks) ((a .width + 7) / 8) (e .if2 .left),
+      eq-eqb (a .drifts) (a .width) (f .if3 .left),
+      eq-eqb (a .links) (3 * a .width + 2) (c .before .if4 .left),
+      eq-eqb (a .room) (a .width) (c .if5 .left),
     )
 
 pub lengths-spec : {M : Type 1} → statement M
 lengths-spec =
-    tie.close (tie.spec returns add-if2 returns-2 returns-3 mul-if4 add-if4 returns-4 returns-5)
+    tie.close (tie.spec returns add-if2 returns-2 returns-3 mul-if4 add-if4 returns-4 returns-5 returns-6)

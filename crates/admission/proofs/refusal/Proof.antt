@@ -21,7 +21,7 @@ start c = c .before .before .before .before .before .before
 abbrev Past : (k : ℕ) → tie.Start → Type 0
 Past k s =
     let a = s .args in
-    let x = call (a .marks .now) (a .drifts .now) (a .links .now) (a .room) in
+    let x = call (a .marks .now) (a .drifts .now) (a .links .now) (a .room) (a .letters) in
     row-refusal (a .settings) (a .before .now) x ≡ first (drop k (row-tests (a .settings) (a .before .now) x))
 
 -- the settings are accepted
@@ -38,11 +38,11 @@ past-1 c = skip-given _ _ (accepted c)
 -- the lengths are right
 lengths-of : (c : tie.Else2) →
     let a = start (c .before .before) .args in
-    Sized (a .settings .width) (length (a .before .now)) (length (a .marks .now)) (length (a .drifts .now)) (length (a .links .now)) (a .room)
+    Sized (a .settings .width) (length (a .before .now)) (length (a .marks .now)) (length (a .drifts .now)) (length (a .links .now)) (a .room) (a .letters)
 lengths-of c =
     let a = start (c .before .before) .args in
-    sized (a .settings .width) (length (a .before .now)) (length (a .marks .now)) (length (a .drifts .now)) (length (a .links .now)) (a .room)
-    (sym (c .before .lengths .ensures) ∙ not-false (c .before .lengths .result) (c .if2 .left))
+    sized (a .settings .width) (length (a .before .now)) (length (a .marks .now)) (length (a .drifts .now)) (length (a .links .now)) (a .room) (a .letters)
+    (rw (c .before .lengths .ensures) at (not-false (c .before .lengths .result) (c .if2 .left)))
 
 past-2 : (c : tie.Else2) → Past 2 (start (c .before .before))
 unfolding row-refusal row-tests call lengths-right

@@ -7,19 +7,22 @@ use Prim.Native.Nat.{ℕ, zero, suc, _+_, _≤_}
 use lib.ListN.{length, take, drop}
 use lib.Seq.{drop-at, length-take-le}
 use native.Mathlib.Omega.{arith}
+use borrow.Author.Tests.{eq-eqb, ne-eqb}
 use Rattle.settings.proofs.Laws.Cases.{by-equal}
 use Rattle.columns.proofs.Laws.Lists.{by-test}
-use Rattle.steps.specs.Shown.{Shown}
+use Rattle.row.specs.Row.{Pulses, pulses}
+use Rattle.settings.specs.declared.Settings.{Settings}
+use Rattle.steps.specs.Shown.{Shown, row-shown}
 use Rattle.show.specs.Text.{texts-of, text-of}
-use Rattle.steps.specs.Number.{start-number}
+use Rattle.steps.specs.Number.{start-number, row-number}
 use Rattle.file.specs.File.{wall-text}
-use Rattle.steps.specs.Step.{stepped, away, step-of, steps-shown}
-use Rattle.stages.specs.Fit.{due-size, due-of, wall-fits}
+use Rattle.steps.specs.Step.{stepped, away, row-step, step-of, steps-shown}
+use Rattle.stages.specs.Fit.{place, due-size, due-of, wall-fits}
 use Rattle.wall.specs.Operation.{fits, went-to, wall-of, end-of, Stepping}
 use Rattle.file.specs.Program.{Calls, over, lent, taken}
 use Rattle.stages.specs.declared.Place.{Place}
 use Rattle.stages.specs.declared.Wall.{Wall}
-use Rattle.stages.specs.declared.Wall.the-variants.{New, Start}
+use Rattle.stages.specs.declared.Wall.the-variants.{New, Start, Row}
 use Rattle.wall.specs.declared.Answer.{Answer}
 use Rattle.wall.specs.declared.Answer.the-variants as step
 use Rattle.wall.proofs.Laws.Fit.{fits-all}
@@ -32,15 +35,33 @@ unfolding texts-of
 texts-append [] ys = refl
 texts-append (x ∷ xs) ys = ap (λ (t : List ℕ). text-of x ++ t) (texts-append xs ys) ∙ sym (append-assoc (text-of x) (texts-of xs) (texts-of ys))
 
+-- the letters of row 0 don't matter
+pub any-letters : (n : ℕ) (s : Settings) (at : ℕ) (ts ls ms bs : List ℕ) →
+    steps-shown n (Row (place s 0 at)) (pulses ts ls) bs ≡ steps-shown n (Row (place s 0 at)) (pulses ts ms) bs
+unfolding step-of row-step stepped away row-shown place
+any-letters zero s at ts ls ms bs = unfold steps-shown in refl
+any-letters (suc n) s at ts ls ms bs =
+    let x = Row (place s 0 at) in
+    by-equal (row-number s ts bs) 0
+    (λ e. rw (one-step n x (pulses ts ls) bs, one-step n x (pulses ts ms) bs, eq-eqb (row-number s ts bs) 0 e))
+    (λ k. rw (
+      one-step n x (pulses ts ls) bs,
+      one-step n x (pulses ts ms) bs,
+      ne-eqb (row-number s ts bs) 0 k,
+      nothing-more n (pulses ts ls) (drop (due-size x) bs),
+      nothing-more n (pulses ts ms) (drop (due-size x) bs),
+    ))
+
 -- the row lent for row 0 does not matter
-pub any-row : (n : ℕ) (p : Place) (ts us bs : List ℕ) → steps-shown n (Start p) ts bs ≡ steps-shown n (Start p) us bs
+pub any-row : (n : ℕ) (p : Place) (ts us : Pulses) (bs : List ℕ) → steps-shown n (Start p) ts bs ≡ steps-shown n (Start p) us bs
 unfolding step-of stepped away
 any-row zero p ts us bs = unfold steps-shown in refl
 any-row (suc n) p ts us bs =
     let s = p .settings in
     let rest = drop (due-size (Start p)) bs in
     by-equal (start-number s bs) 0
-    (λ e. rw (one-step n (Start p) ts bs, one-step n (Start p) us bs, start-goes ts bs s (p .offset) e, start-goes us bs s (p .offset) e))
+    (λ e. rw (one-step n (Start p) ts bs, one-step n (Start p) us bs, start-goes ts bs s (p .offset) e, start-goes us bs s (p .offset) e)
+    (any-letters n s _ _ (ts .letters) (us .letters) rest))
     (λ k. rw (
       one-step n (Start p) ts bs,
       one-step n (Start p) us bs,
@@ -51,12 +72,12 @@ any-row (suc n) p ts us bs =
     ))
 
 -- a call that went was one that fits, and its text is the step's
-module _ (x : Wall) (part row held : List ℕ) (at : ℕ) (answer : Answer) (next : Wall) (end : ℕ) (row-after out : List ℕ)
+module _ (x : Wall) (part : List ℕ) (row : Pulses) (held : List ℕ) (at : ℕ) (answer : Answer) (next : Wall) (end : ℕ) (row-after : Pulses) (out : List ℕ)
     (d : Stepping x part row held at answer row-after out) (e : wall-of answer ≡ some next) (f : end-of answer ≡ some end) where
-  did-fit : fits x (length row) (length held) at ≡ true
+  did-fit : fits x row (length held) at ≡ true
   unfolding wall-of
   did-fit =
-      by-test (fits x (length row) (length held) at)
+      by-test (fits x row (length held) at)
       (λ t. t)
       (λ t. let is : answer ≡ step.Unfit = rw t at (d .answered) in
       let none-some : none ≡ some next = sym (ap wall-of is) ∙ e in
@@ -80,21 +101,21 @@ module _ (x : Wall) (part row held : List ℕ) (at : ℕ) (answer : Answer) (nex
   its-text : drop at (take end out) ≡ texts-of (step-of x row part .shows)
   its-text =
       rw (its-end, d .text did-fit .holds)
-      (drop-at (take at held) _ at (length-take-le at held (omega (arith, fits-all x (length row) (length held) at did-fit .0))))
+      (drop-at (take at held) _ at (length-take-le at held (omega (arith, fits-all x row (length held) at did-fit .0))))
 
 -- the text of one step and of those after it
-step-then : (m : ℕ) (x : Wall) (n : ℕ) (row rest : List ℕ) → wall-fits x n ≡ true →
+step-then : (m : ℕ) (x : Wall) (n : ℕ) (row : Pulses) (rest : List ℕ) → wall-fits x n ≡ true →
     let o = step-of x row (take (due-of x) rest) in
     texts-of (steps-shown (suc m) x row rest) ≡ texts-of (o .shows) ++ texts-of (steps-shown m (o .next) (o .row) (drop (due-of x) rest))
 unfolding steps-shown
 step-then m x n row rest e = rw (fits-due x n e) (texts-append _ _)
 
 -- so many steps, or more, have this text
-record Shows (x : Wall) (row rest text : List ℕ) : Type 0 where
+record Shows (x : Wall) (row : Pulses) (rest text : List ℕ) : Type 0 where
   pub steps : ℕ
   pub shows : (n : ℕ) → steps ≤ n → texts-of (steps-shown n x row rest) ≡ text
 
-one-more : {x : Wall} {row rest text : List ℕ} (held : List ℕ) (at : ℕ) (answer : Answer) (next : Wall) (end : ℕ) (row-after out : List ℕ) →
+one-more : {x : Wall} {row : Pulses} {rest text : List ℕ} (held : List ℕ) (at : ℕ) (answer : Answer) (next : Wall) (end : ℕ) (row-after : Pulses) (out : List ℕ) →
     Stepping x (take (due-of x) rest) row held at answer row-after out → wall-of answer ≡ some next → end-of answer ≡ some end →
     Shows next row-after (drop (due-of x) rest) text → Shows x row rest (drop at (take end out) ++ text)
 one-more {x} {row} {rest} {text} held at answer next end row-after out d e f k = record { steps = suc (k .steps); shows = go }
@@ -106,21 +127,21 @@ one-more {x} {row} {rest} {text} held at answer next end row-after out d e f k =
     go zero j = let never : ⊥ = omega arith in absurd never
     go (suc m) j =
         let o = step-of x row part in
-        let fit = fits-all x (length row) (length held) at (did-fit x part row held at answer next end row-after out d e f) .1 in
+        let fit = fits-all x row (length held) at (did-fit x part row held at answer next end row-after out d e f) .2 in
         let wall-same = its-wall x part row held at answer next end row-after out d e f in
         let row-same = its-row x part row held at answer next end row-after out d e f in
-        step-then m x (length row) row rest fit
+        step-then m x (length (row .times)) row rest fit
         ∙ ap (λ (t : List ℕ). texts-of (o .shows) ++ t) (rw (← wall-same, ← row-same) (k .shows m (omega arith)))
         ∙ ap (λ (t : List ℕ). t ++ text) (sym (its-text x part row held at answer next end row-after out d e f))
 
-shows : {x : Wall} {row rest text : List ℕ} → Calls x row rest text → Shows x row rest text
+shows : {x : Wall} {row : Pulses} {rest text : List ℕ} → Calls x row rest text → Shows x row rest text
 shows (over {row} {rest}) = record { steps = 0; shows = λ n i. rw (nothing-more n row rest) (unfold texts-of in refl) }
 shows (lent {p} {row} {rest} held c) =
     let k = shows c in
     record { steps = k .steps; shows = λ n i. rw (any-row n p held row rest) (k .shows n i) }
 shows (taken held at answer next end row-after out d e f c) = one-more held at answer next end row-after out d e f (shows c)
 
-pub calls-right : (row file text : List ℕ) → Calls New row file text → text ≡ wall-text file
+pub calls-right : (row : Pulses) (file text : List ℕ) → Calls New row file text → text ≡ wall-text file
 unfolding wall-text
 calls-right row file text c =
     let k = shows c in

@@ -58,7 +58,7 @@ module _ (s : Settings) (ts : List ℕ) (row : Early s ts) where
           eq-eqb (length (marks-in w bs)) (mark-bytes w) (marks-length w bs e),
           eq-eqb (length (drifts-in w body)) w (drifts-length w body),
           eq-eqb (length (links-in w body)) (3 * w + 2) (links-length w body (limits s (row .pass) .width .0)),
-        ) (eq-eqb w w refl)
+        ) (rw (eq-eqb w w refl))
 
     pub limited : field-refusal 3 (mark-bytes (s .width)) bs ≡ 0 →
         row-refusal s ts (call-in (s .width) bs) ≡ first (row-limits s (call-in (s .width) bs))

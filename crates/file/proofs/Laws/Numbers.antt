@@ -10,7 +10,7 @@ use Rattle.settings.specs.Refusal.{Test, _when_, first, any-below}
 use Rattle.settings.specs.Settings.{settings-tests, settings-refusal}
 use Rattle.settings.specs.declared.Settings.{Settings}
 use Rattle.settings.proofs.Laws.Cases.{by-equal}
-use Rattle.row.specs.Row.{row-of}
+use Rattle.row.specs.Row.{Pulses, next-pulses}
 use Rattle.columns.specs.Marks.{mark-bytes}
 use Rattle.columns.specs.Columns.{any-of}
 use Rattle.fields.specs.Field.{field-tests, field-refusal, body, or-else}
@@ -74,13 +74,14 @@ start-number-met s bs = or-other (field-refusal 2 (start-size (s .width)) bs) _ 
     late-met true = unfold in-a-file any-of in refl
     late-met false = unfold in-a-file any-of in refl
 
-pub rows-met : (s : Settings) (n l at : ℕ) (ts bs : List ℕ) → Grown s l ts → l + n ≤ 1024 → Met (number-shown (rows-shown s n l at ts bs))
+pub rows-met : (s : Settings) (n l at : ℕ) (r : Pulses) (bs : List ℕ) → Grown s l (r .times) → l + n ≤ 1024 → Met (number-shown (rows-shown s n l at r bs))
 unfolding rows-shown number-shown in-a-file any-of
-rows-met s zero l at ts [] g i = rw (number-alone s l (no-marks (s .width)) ts)
-rows-met s zero l at ts (b ∷ bs) g i = rw (ne-eqb (length (b ∷ bs)) 0 (omega arith))
-rows-met s (suc n) l at ts bs g i =
+rows-met s zero l at r [] g i = rw (number-alone s l (no-marks (s .width)) r)
+rows-met s zero l at r (b ∷ bs) g i = rw (ne-eqb (length (b ∷ bs)) 0 (omega arith))
+rows-met s (suc n) l at r bs g i =
+    let ts = r .times in
     by-equal (row-number s ts bs) 0
     (λ q. let x = call-in (s .width) bs in
-    rw (eq-eqb (row-number s ts bs) 0 q, number-after s l (marks-in (s .width) bs) ts)
-    (rows-met s n (suc l) (at + row-size (s .width)) (row-of s ts x) (drop (row-size (s .width)) bs) (grows x g (call-accepted s ts bs q)) (omega arith)))
+    rw (eq-eqb (row-number s ts bs) 0 q, number-after s l (marks-in (s .width) bs) r)
+    (rows-met s n (suc l) (at + row-size (s .width)) (next-pulses s ts x) (drop (row-size (s .width)) bs) (grows x g (call-accepted s ts bs q)) (omega arith)))
     (λ q. rw (ne-eqb (row-number s ts bs) 0 q) (row-met s ts bs (early-of g (omega arith))))

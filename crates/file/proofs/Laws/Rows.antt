@@ -10,7 +10,7 @@ use Rattle.settings.specs.declared.Settings.{Settings}
 use Rattle.settings.proofs.Laws.Cases.{by-equal}
 use Rattle.settings.proofs.Laws.Settings.{limits}
 use Rattle.admission.specs.Call.{Call, call}
-use Rattle.row.specs.Row.{row-of}
+use Rattle.row.specs.Row.{Pulses, row-of, next-pulses}
 use Rattle.runs.specs.Growth.{Pulse-grows}
 use Rattle.columns.specs.Marks.{mark-bytes}
 use Rattle.admission.specs.Refusal.{row-refusal}
@@ -61,18 +61,19 @@ call-accepted s ts bs e =
 
 -- rows that keep their limits are a run, shown whole
 module _ (s : Settings) where
-  pub rows-accepted : (n l at : ℕ) (ts bs : List ℕ) → Rows-keep s n bs → Grown s l ts → l + n ≤ 1024 →
-      rows-shown s n l at ts bs ≡ run-shown s l (calls-in (s .width) n bs) ts (rows s (calls-in (s .width) n bs) ts)
+  pub rows-accepted : (n l at : ℕ) (r : Pulses) (bs : List ℕ) → Rows-keep s n bs → Grown s l (r .times) → l + n ≤ 1024 →
+      rows-shown s n l at r bs ≡ run-shown s l (calls-in (s .width) n bs) r (rows s (calls-in (s .width) n bs) (r .times))
   unfolding rows-shown calls-in run-shown rows call-in call
-  rows-accepted zero l at ts bs over g i = refl
-  rows-accepted (suc n) l at ts bs (and-then k r) g i =
+  rows-accepted zero l at r bs over g i = refl
+  rows-accepted (suc n) l at r bs (and-then k rest) g i =
+      let ts = r .times in
       let x = call-in (s .width) bs in
       let e = keeps s ts (early-of g (omega arith)) bs k in
       let a = call-accepted s ts bs e in
       rw (
         eq-eqb (row-number s ts bs) 0 e,
         eq-eqb (row-refusal s ts x) 0 a,
-        rows-accepted n (suc l) (at + row-size (s .width)) (row-of s ts x) (drop (row-size (s .width)) bs) r (grows x g a) (omega arith),
+        rows-accepted n (suc l) (at + row-size (s .width)) (next-pulses s ts x) (drop (row-size (s .width)) bs) rest (grows x g a) (omega arith),
       )
 
   pub all-accepted : (n l : ℕ) (ts bs : List ℕ) → Rows-keep s n bs → Grown s l ts → l + n ≤ 1024 →
@@ -85,27 +86,28 @@ module _ (s : Settings) where
       rw (eq-eqb (row-refusal s ts x) 0 a, all-accepted n (suc l) (row-of s ts x) (drop (row-size (s .width)) bs) r (grows x g a) (omega arith))
 
 -- what a row shows is no refusal
-pub number-after : (s : Settings) (l : ℕ) (ms ts : List ℕ) (xs : List Shown) → number-shown (row-shown s l ms ts ++ xs) ≡ number-shown xs
+pub number-after : (s : Settings) (l : ℕ) (ms : List ℕ) (r : Pulses) (xs : List Shown) → number-shown (row-shown s l ms r ++ xs) ≡ number-shown xs
 unfolding row-shown number-shown
-number-after s zero ms ts xs = refl
-number-after s (suc l) ms ts xs = refl
+number-after s zero ms r xs = refl
+number-after s (suc l) ms r xs = refl
 
-pub number-alone : (s : Settings) (l : ℕ) (ms ts : List ℕ) → number-shown (row-shown s l ms ts) ≡ 0
+pub number-alone : (s : Settings) (l : ℕ) (ms : List ℕ) (r : Pulses) → number-shown (row-shown s l ms r) ≡ 0
 unfolding row-shown number-shown
-number-alone s zero ms ts = refl
-number-alone s (suc l) ms ts = refl
+number-alone s zero ms r = refl
+number-alone s (suc l) ms r = refl
 
 -- rows that are not turned away keep their limits
 module _ (s : Settings) where
-  pub rows-kept : (n l at : ℕ) (ts bs : List ℕ) → number-shown (rows-shown s n l at ts bs) ≡ 0 → Grown s l ts → l + n ≤ 1024 → Rows-keep s n bs
+  pub rows-kept : (n l at : ℕ) (r : Pulses) (bs : List ℕ) → number-shown (rows-shown s n l at r bs) ≡ 0 → Grown s l (r .times) → l + n ≤ 1024 → Rows-keep s n bs
   unfolding rows-shown number-shown
-  rows-kept zero l at ts [] e g i = over
-  rows-kept zero l at ts (b ∷ bs) e g i =
+  rows-kept zero l at r [] e g i = over
+  rows-kept zero l at r (b ∷ bs) e g i =
       let never : ⊥ = omega (arith, rw (ne-eqb (length (b ∷ bs)) 0 (omega arith)) at e) in absurd never
-  rows-kept (suc n) l at ts bs e g i =
+  rows-kept (suc n) l at r bs e g i =
+      let ts = r .times in
       by-equal (row-number s ts bs) 0
       (λ q. let x = call-in (s .width) bs in
-      let rest = rw (eq-eqb (row-number s ts bs) 0 q, number-after s l (marks-in (s .width) bs) ts) at e in
+      let rest = rw (eq-eqb (row-number s ts bs) 0 q, number-after s l (marks-in (s .width) bs) r) at e in
       and-then (kept s ts (early-of g (omega arith)) bs q)
-      (rows-kept n (suc l) (at + row-size (s .width)) (row-of s ts x) (drop (row-size (s .width)) bs) rest (grows x g (call-accepted s ts bs q)) (omega arith)))
+      (rows-kept n (suc l) (at + row-size (s .width)) (next-pulses s ts x) (drop (row-size (s .width)) bs) rest (grows x g (call-accepted s ts bs q)) (omega arith)))
       (λ q. absurd (q (rw (ne-eqb (row-number s ts bs) 0 q) at e)))

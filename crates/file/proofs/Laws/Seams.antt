@@ -13,7 +13,7 @@ use Rattle.settings.proofs.Laws.Cases.{by-equal, by-order}
 use Rattle.columns.specs.Columns.{are-neighbours}
 use Rattle.admission.specs.Call.{Call, call}
 use Rattle.columns.specs.Marks.{marked, mark-bytes}
-use Rattle.row.specs.Row.{row-of}
+use Rattle.row.specs.Row.{Pulses, next-pulses}
 use Rattle.admission.specs.Refusal.{row-refusal}
 use Rattle.admission.proofs.Laws.Accepted.{accepted}
 use Rattle.columns.proofs.Laws.Columns.{own, beside, strangers}
@@ -61,32 +61,33 @@ none-marked w c = rw (zero-at (mark-bytes w) (c / 8), zero-div (2 ^ (c % 8)))
         (λ h. getD-replicate n i 0 0 h)
 
 -- a row that is shown
-row-holds : (s : Settings) (l m : ℕ) (ms ts : List ℕ) → Grown s l ts → l ≤ 1024 → Apart (s .width) ms → Seams-hold (lines (s .width) m ms ts)
+row-holds : (s : Settings) (l m : ℕ) (ms : List ℕ) (r : Pulses) → Grown s l (r .times) → l ≤ 1024 → Apart (s .width) ms → Seams-hold (lines (s .width) m ms r)
 unfolding Seams-hold
-row-holds s l m ms ts g i apart a b j k n =
-    by-marks (getD ts a 0) (getD ts b 0) (marked ms a) (marked ms b) (omega (arith, g .grown a j)) (omega (arith, g .grown b k)) (apart a b j k n)
+row-holds s l m ms r g i apart a b j k n =
+    by-marks (getD (r .times) a 0) (getD (r .times) b 0) (marked ms a) (marked ms b) (omega (arith, g .grown a j)) (omega (arith, g .grown b k)) (apart a b j k n)
 
-shown-holds : (s : Settings) (l : ℕ) (ms ts : List ℕ) {xs : List Shown} → Grown s l ts → l ≤ 1024 → Apart (s .width) ms → Every Seams-hold xs →
-    Every Seams-hold (row-shown s l ms ts ++ xs)
+shown-holds : (s : Settings) (l : ℕ) (ms : List ℕ) (r : Pulses) {xs : List Shown} → Grown s l (r .times) → l ≤ 1024 → Apart (s .width) ms → Every Seams-hold xs →
+    Every Seams-hold (row-shown s l ms r ++ xs)
 unfolding row-shown
-shown-holds s zero ms ts g i apart rest = rest
-shown-holds s (suc l) ms ts g i apart rest = also (row-holds s (suc l) (suc l) ms ts g i apart) rest
+shown-holds s zero ms r g i apart rest = rest
+shown-holds s (suc l) ms r g i apart rest = also (row-holds s (suc l) (suc l) ms r g i apart) rest
 
 pub away-holds : (n at : ℕ) → Every Seams-hold (turned-away n at ∷ [])
 unfolding Seams-hold
 away-holds n at = also tt no-more
 
-pub rows-hold : (s : Settings) (n l at : ℕ) (ts bs : List ℕ) → Grown s l ts → l + n ≤ 1024 → Every Seams-hold (rows-shown s n l at ts bs)
+pub rows-hold : (s : Settings) (n l at : ℕ) (r : Pulses) (bs : List ℕ) → Grown s l (r .times) → l + n ≤ 1024 → Every Seams-hold (rows-shown s n l at r bs)
 unfolding rows-shown
-rows-hold s zero l at ts [] g i =
+rows-hold s zero l at r [] g i =
     rw append-nil at
-    (shown-holds s l (no-marks (s .width)) ts g (omega arith) (λ a b j k n p q. true≢false (sym p ∙ none-marked (s .width) a)) no-more)
-rows-hold s zero l at ts (b ∷ bs) g i = rw (ne-eqb (length (b ∷ bs)) 0 (omega arith)) (away-holds 44 at)
-rows-hold s (suc n) l at ts bs g i =
+    (shown-holds s l (no-marks (s .width)) r g (omega arith) (λ a b j k n p q. true≢false (sym p ∙ none-marked (s .width) a)) no-more)
+rows-hold s zero l at r (b ∷ bs) g i = rw (ne-eqb (length (b ∷ bs)) 0 (omega arith)) (away-holds 44 at)
+rows-hold s (suc n) l at r bs g i =
+    let ts = r .times in
     by-equal (row-number s ts bs) 0
     (λ q. let x = call-in (s .width) bs in
     let a = call-accepted s ts bs q in
     rw (eq-eqb (row-number s ts bs) 0 q)
-    (shown-holds s l (marks-in (s .width) bs) ts g (omega arith) (unfold call-in call in marks-apart s ts x a)
-    (rows-hold s n (suc l) (at + row-size (s .width)) (row-of s ts x) (drop (row-size (s .width)) bs) (grows x g a) (omega arith))))
+    (shown-holds s l (marks-in (s .width) bs) r g (omega arith) (unfold call-in call in marks-apart s ts x a)
+    (rows-hold s n (suc l) (at + row-size (s .width)) (next-pulses s ts x) (drop (row-size (s .width)) bs) (grows x g a) (omega arith))))
     (λ q. rw (ne-eqb (row-number s ts bs) 0 q) (away-holds (row-number s ts bs) _))

@@ -13,6 +13,7 @@ use Rattle.settings.proofs.Laws.Settings.{limits}
 use Rattle.fields.specs.Field.{field-refusal, body}
 use Rattle.contents.specs.Contents.{settings-size, settings-in, row-size}
 use Rattle.steps.specs.Number.{settings-number, start-number, row-number}
+use Rattle.row.specs.Row.{Pulses}
 use Rattle.stages.specs.Fit.{place, due-size, passes, due-of, width-of, place-fits, wall-fits}
 use Rattle.steps.specs.Step.{stepped, away, settings-step, start-step, after-row, row-step, end-step, step-of}
 use Rattle.stages.specs.declared.Place.{Place}
@@ -42,55 +43,55 @@ module _ (s : Settings) (pass : settings-refusal s ≡ 0) where
       rw e (record { stands = (record { pass = pass; row = omega arith; offset = j }, more); less = omega arith })
   row-ahead l at false e i j = rw e (record { stands = record { pass = pass; row = omega arith; offset = j }; less = omega arith })
 
-  row-step-ahead : (l at : ℕ) (ts bs : List ℕ) (b : Bool) → eqb (row-number s ts bs) 0 ≡ b → l < s .rows → at ≤ 2078 + 6710 * l →
-      Ahead (row-step s l at ts bs .next) (s .rows - l + 1)
+  row-step-ahead : (l at : ℕ) (r : Pulses) (bs : List ℕ) (b : Bool) → eqb (row-number s (r .times) bs) 0 ≡ b → l < s .rows → at ≤ 2078 + 6710 * l →
+      Ahead (row-step s l at r bs .next) (s .rows - l + 1)
   unfolding row-step stepped away
-  row-step-ahead l at ts bs true e i j =
+  row-step-ahead l at r bs true e i j =
       let size = row-small (s .width) (limits s pass .width .1) in
       rw e (row-ahead l (at + row-size (s .width)) (ltb (suc l) (s .rows)) refl i (omega arith))
-  row-step-ahead l at ts bs false e i j = rw e (over-ahead _ (omega arith))
+  row-step-ahead l at r bs false e i j = rw e (over-ahead _ (omega arith))
 
-  start-step-ahead : (at : ℕ) (ts bs : List ℕ) (b : Bool) → eqb (start-number s bs) 0 ≡ b → at ≤ 27 →
-      Ahead (start-step s at ts bs .next) (s .rows + 2)
+  start-step-ahead : (at : ℕ) (r : Pulses) (bs : List ℕ) (b : Bool) → eqb (start-number s bs) 0 ≡ b → at ≤ 27 →
+      Ahead (start-step s at r bs .next) (s .rows + 2)
   unfolding start-step stepped away place Stands steps-left
-  start-step-ahead at ts bs true e i =
+  start-step-ahead at r bs true e i =
       let l = limits s pass in
       let some = l .rows .0 in
       let narrow = l .width .1 in
       rw e (record { stands = (record { pass = pass; row = omega arith; offset = omega arith }, some); less = omega arith })
-  start-step-ahead at ts bs false e i = rw e (over-ahead _ (omega arith))
+  start-step-ahead at r bs false e i = rw e (over-ahead _ (omega arith))
 
-  end-step-ahead : (l at : ℕ) (ts bs : List ℕ) (b : Bool) → eqb (length bs) 0 ≡ b → Ahead (end-step s l at ts bs .next) 1
+  end-step-ahead : (l at : ℕ) (r : Pulses) (bs : List ℕ) (b : Bool) → eqb (length bs) 0 ≡ b → Ahead (end-step s l at r bs .next) 1
   unfolding end-step stepped away
-  end-step-ahead l at ts bs true e = rw e (over-ahead 1 (omega arith))
-  end-step-ahead l at ts bs false e = rw e (over-ahead 1 (omega arith))
+  end-step-ahead l at r bs true e = rw e (over-ahead 1 (omega arith))
+  end-step-ahead l at r bs false e = rw e (over-ahead 1 (omega arith))
 
-settings-step-ahead : (ts bs : List ℕ) (b : Bool) → eqb (settings-number bs) 0 ≡ b → Ahead (settings-step ts bs .next) (steps-left New)
+settings-step-ahead : (r : Pulses) (bs : List ℕ) (b : Bool) → eqb (settings-number bs) 0 ≡ b → Ahead (settings-step r bs .next) (steps-left New)
 unfolding settings-step stepped away place Stands steps-left settings-number
-settings-step-ahead ts bs true e =
+settings-step-ahead r bs true e =
     let made = settings-in (body settings-size bs) in
     let number = else-none (field-refusal 1 settings-size bs) (settings-refusal made) (eqb-true (settings-number bs) 0 e) in
     let few = limits made (number .1) .rows .1 in
     rw e (record { stands = (record { pass = number .1; row = omega arith; offset = omega arith }, omega arith); less = omega arith })
-settings-step-ahead ts bs false e = rw e (over-ahead (steps-left New) (omega arith))
+settings-step-ahead r bs false e = rw e (over-ahead (steps-left New) (omega arith))
 
 -- a step on a wall that stands, with something due
-pub step-ahead : (x : Wall) (ts bs : List ℕ) → Stands x → (due-of x ≡ 0 → ⊥) → Ahead (step-of x ts bs .next) (steps-left x)
+pub step-ahead : (x : Wall) (r : Pulses) (bs : List ℕ) → Stands x → (due-of x ≡ 0 → ⊥) → Ahead (step-of x r bs .next) (steps-left x)
 unfolding step-of Stands steps-left due-of due-size
-step-ahead New ts bs i k = settings-step-ahead ts bs (eqb (settings-number bs) 0) refl
-step-ahead (Start p) ts bs i k = start-step-ahead (p .settings) (i .0 .pass) (p .offset) ts bs (eqb (start-number (p .settings) bs) 0) refl (i .1)
-step-ahead (Row p) ts bs i k = row-step-ahead (p .settings) (i .0 .pass) (p .row) (p .offset) ts bs (eqb (row-number (p .settings) ts bs) 0) refl (i .1) (i .0 .offset)
-step-ahead (End p) ts bs i k = end-step-ahead (p .settings) (i .pass) (p .row) (p .offset) ts bs (eqb (length bs) 0) refl
-step-ahead Over ts bs i k = absurd (k refl)
+step-ahead New r bs i k = settings-step-ahead r bs (eqb (settings-number bs) 0) refl
+step-ahead (Start p) r bs i k = start-step-ahead (p .settings) (i .0 .pass) (p .offset) r bs (eqb (start-number (p .settings) bs) 0) refl (i .1)
+step-ahead (Row p) r bs i k = row-step-ahead (p .settings) (i .0 .pass) (p .row) (p .offset) r bs (eqb (row-number (p .settings) (r .times) bs) 0) refl (i .1) (i .0 .offset)
+step-ahead (End p) r bs i k = end-step-ahead (p .settings) (i .pass) (p .row) (p .offset) r bs (eqb (length bs) 0) refl
+step-ahead Over r bs i k = absurd (k refl)
 
-pub step-stands : (x : Wall) (ts bs : List ℕ) → Stands x → Stands (step-of x ts bs .next)
+pub step-stands : (x : Wall) (r : Pulses) (bs : List ℕ) → Stands x → Stands (step-of x r bs .next)
 unfolding step-of stepped Stands
-step-stands New ts bs i = settings-step-ahead ts bs (eqb (settings-number bs) 0) refl .stands
-step-stands (Start p) ts bs i = start-step-ahead (p .settings) (i .0 .pass) (p .offset) ts bs (eqb (start-number (p .settings) bs) 0) refl (i .1) .stands
-step-stands (Row p) ts bs i =
-    row-step-ahead (p .settings) (i .0 .pass) (p .row) (p .offset) ts bs (eqb (row-number (p .settings) ts bs) 0) refl (i .1) (i .0 .offset) .stands
-step-stands (End p) ts bs i = end-step-ahead (p .settings) (i .pass) (p .row) (p .offset) ts bs (eqb (length bs) 0) refl .stands
-step-stands Over ts bs i = tt
+step-stands New r bs i = settings-step-ahead r bs (eqb (settings-number bs) 0) refl .stands
+step-stands (Start p) r bs i = start-step-ahead (p .settings) (i .0 .pass) (p .offset) r bs (eqb (start-number (p .settings) bs) 0) refl (i .1) .stands
+step-stands (Row p) r bs i =
+    row-step-ahead (p .settings) (i .0 .pass) (p .row) (p .offset) r bs (eqb (row-number (p .settings) (r .times) bs) 0) refl (i .1) (i .0 .offset) .stands
+step-stands (End p) r bs i = end-step-ahead (p .settings) (i .pass) (p .row) (p .offset) r bs (eqb (length bs) 0) refl .stands
+step-stands Over r bs i = tt
 
 -- a wall that stands fits a row of its width, and what is due of it is what the definition of a step takes
 place-fit : (p : Place) → Stood p → place-fits p (cond (passes p) (p .settings .width) 0) ≡ true

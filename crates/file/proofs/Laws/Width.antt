@@ -5,11 +5,13 @@ use Prim.Native.Nat.{ℕ}
 use native.Mathlib.Omega.{arith}
 use borrow.Author.Tests.{eq-eqb}
 use lib.ListN.{length, take}
-use lib.Seq.{take-all}
+use lib.Seq.{take-all, take-take}
 use Rattle.settings.specs.Settings.{settings-refusal}
 use Rattle.settings.proofs.Laws.Cases.{by-equal}
 use Rattle.columns.proofs.Laws.Lists.{table-length}
-use Rattle.row.specs.Row.{row-of}
+use Rattle.row.specs.Row.{Pulses, cut, row-of}
+use Rattle.row.proofs.Laws.Progress.{letters-length}
+use Rattle.contents.specs.Contents.{call-in}
 use Rattle.contents.proofs.Laws.Contents.{times-length}
 use Rattle.stages.specs.Fit.{passes, width-of}
 use Rattle.stages.specs.declared.Place.{Place}
@@ -24,26 +26,30 @@ wide : (p : Place) → Stood p → width-of (Row p) ≡ p .settings .width
 unfolding width-of passes
 wide p i = rw (eq-eqb (settings-refusal (p .settings)) 0 (i .pass))
 
-whole : (n : ℕ) (xs : List ℕ) → length xs ≡ n → take n xs ≡ xs
-whole n xs e = take-all n xs (omega (arith, e))
+-- a row of W tiles stands whole in its place, and so does one that was taken from there
+whole : (n : ℕ) (r : Pulses) → length (r .times) ≡ n → take n (r .letters) ≡ r .letters → cut n r ≡ r
+whole n r e d = rw (take-all n (r .times) (omega (arith, e)), d)
 
-pub row-fits : (x : Wall) (times part : List ℕ) → Stands x → (step-of x (take (width-of x) times) part .next ≡ Over → ⊥) →
-    take (width-of x) (step-of x (take (width-of x) times) part .row) ≡ step-of x (take (width-of x) times) part .row
+pub row-fits : (x : Wall) (row : Pulses) (part : List ℕ) → Stands x → (step-of x (cut (width-of x) row) part .next ≡ Over → ⊥) →
+    cut (width-of x) (step-of x (cut (width-of x) row) part .row) ≡ step-of x (cut (width-of x) row) part .row
 unfolding Stands width-of step-of stepped away row-of
-row-fits New times part i k = sym (settings-keeps (take 0 times) part)
-row-fits (Start p) times part i k =
-    let ts = take (width-of (Start p)) times in
+row-fits New row part i k = sym (settings-keeps (cut 0 row) part)
+row-fits (Start p) row part i k =
+    let r = cut (width-of (Start p)) row in
     by-equal (start-number (p .settings) part) 0
-    (λ e. rw (start-goes ts part (p .settings) (p .offset) e, wide p (i .0)) (whole (p .settings .width) _ (times-length (p .settings .width) _)))
-    (λ j. absurd (k (rw (start-away ts part (p .settings) (p .offset) _ refl j))))
-row-fits (Row p) times part i k =
-    let ts = take (width-of (Row p)) times in
-    by-equal (row-number (p .settings) ts part) 0
-    (λ e. rw (row-goes ts part (p .settings) (p .offset) (p .row) e, wide p (i .0)) (whole (p .settings .width) _ (table-length _ (p .settings .width) 0)))
-    (λ j. absurd (k (rw (row-away ts part (p .settings) (p .offset) (p .row) _ _ refl j refl))))
-row-fits (End p) times part i k =
-    let ts = take (width-of (End p)) times in
+    (λ e. rw (start-goes r part (p .settings) (p .offset) e, wide p (i .0))
+    (whole (p .settings .width) _ (times-length (p .settings .width) _) (take-take (p .settings .width) (p .settings .width) (row .letters) (omega arith))))
+    (λ j. absurd (k (rw (start-away r part (p .settings) (p .offset) _ refl j))))
+row-fits (Row p) row part i k =
+    let r = cut (width-of (Row p)) row in
+    let w = p .settings .width in
+    by-equal (row-number (p .settings) (r .times) part) 0
+    (λ e. rw (row-goes r part (p .settings) (p .offset) (p .row) e, wide p (i .0))
+    (whole w _ (table-length _ w 0) (take-all w _ (omega (arith, letters-length (p .settings) (take w (row .times)) (call-in w part))))))
+    (λ j. absurd (k (rw (row-away r part (p .settings) (p .offset) (p .row) _ _ refl j refl))))
+row-fits (End p) row part i k =
+    let r = cut (width-of (End p)) row in
     by-equal (length part) 0
-    (λ e. absurd (k (rw (end-goes ts part (p .settings) (p .offset) (p .row) e))))
-    (λ j. absurd (k (rw (end-away ts part (p .settings) (p .offset) (p .row) j))))
-row-fits Over times part i k = absurd (k refl)
+    (λ e. absurd (k (rw (end-goes r part (p .settings) (p .offset) (p .row) e))))
+    (λ j. absurd (k (rw (end-away r part (p .settings) (p .offset) (p .row) j))))
+row-fits Over row part i k = absurd (k refl)

@@ -1,5 +1,4 @@
 -- `polzaintu_row` meets its contract. Assumes nothing.
-use mathlib.Core.Path.{_∙_}
 use borrow.Author.Needs.{needs}
 use Rattle.polzaintu.proofs.polzaintu_row.Statement.{statement}
 use Rattle.polzaintu.proofs.polzaintu_row.Tie as tie
@@ -16,14 +15,17 @@ ends-left-requires c κs = search needs
 same-length : tie.Need-same-length
 same-length c = search needs
 
+same-length-2 : tie.Need-same-length-2
+same-length-2 c = search needs
+
 returns : tie.Need-returns
 returns c =
-    let o = c .before .before .before .before in
-    let s = o .before .before in (
-      c .ends-left .ensures .0 ∙ rw (o .plan .ensures .0, s .settings-in .ensures),
-      (o .plan .ensures .1 ∙ rw (s .settings-in .ensures), c .ends-left .ensures .1 ∙ rw (o .plan .ensures .0, s .settings-in .ensures)),
-    )
+    let o = c .before .before .before .before .before .before in
+    let e = o .before .before .before .settings-in .ensures in
+    let plan = rw e at (o .plan .ensures) in
+    let left = rw (plan .0) at (c .ends-left .ensures) in
+    (left .0, (plan .1 .0, (plan .1 .1, left .1)))
 
 pub polzaintu-row-spec : {M : Type 1} → statement M
 polzaintu-row-spec =
-    tie.close (tie.spec settings-in-requires plan-requires ends-left-requires same-length returns)
+    tie.close (tie.spec settings-in-requires plan-requires ends-left-requires same-length same-length-2 returns)

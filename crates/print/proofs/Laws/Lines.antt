@@ -7,6 +7,7 @@ use borrow.Author.Tests.{eq-eqb, ne-eqb, lt-ltb, le-ltb}
 use lib.ListN.{length, take, drop}
 use Rattle.settings.specs.declared.Settings.{Settings}
 use Rattle.settings.proofs.Laws.Cases.{by-order, by-equal}
+use Rattle.row.specs.Row.{Pulses, cut}
 use Rattle.steps.specs.Number.{settings-number, start-number, row-number}
 use Rattle.steps.specs.Shown.{Shown}
 use Rattle.steps.specs.Step.{Stepped, stepped, away, settings-step, start-step, after-row, row-step, end-step, step-of}
@@ -18,14 +19,14 @@ use Rattle.file.specs.File.{rows-shown, start-shown, shown}
 use Rattle.file.specs.Stands.{Stands}
 use Rattle.file.proofs.Laws.Calls.{texts-append}
 use Rattle.file.proofs.Laws.Stands.{step-stands, due-right}
-use Rattle.file.proofs.Laws.Steps.{part-enough}
+use Rattle.file.proofs.Laws.Steps.{part-enough, any-letters}
 use Rattle.file.proofs.Laws.Width.{row-fits}
 use Rattle.stream.specs.Run.{brings}
 use Rattle.stream.proofs.Laws.Held.{row-kept}
 use Rattle.print.specs.Lines.{lines-step}
 
 -- what is shown from a wall on; row 0 and the settings don't read the row that is lent
-abbrev pub from : Wall → (row rest : List ℕ) → List Shown
+abbrev pub from : Wall → (row : Pulses) → (rest : List ℕ) → List Shown
 from New ts bs = shown bs
 from (Start p) ts bs = start-shown (p .settings) (p .offset) bs
 from (Row p) ts bs = rows-shown (p .settings) (p .settings .rows - p .row) (p .row) (p .offset) ts bs
@@ -33,7 +34,7 @@ from (End p) ts bs = rows-shown (p .settings) zero (p .row) (p .offset) ts bs
 from Over ts bs = []
 
 -- after a row comes the next, or the end
-after-shown : (s : Settings) (l : ℕ) → l ≤ s .rows → (at : ℕ) (ts bs : List ℕ) → from (after-row s l at) ts bs ≡ rows-shown s (s .rows - l) l at ts bs
+after-shown : (s : Settings) (l : ℕ) → l ≤ s .rows → (at : ℕ) (ts : Pulses) (bs : List ℕ) → from (after-row s l at) ts bs ≡ rows-shown s (s .rows - l) l at ts bs
 unfolding after-row place
 after-shown s l i at ts bs =
     by-order (s .rows) l
@@ -41,7 +42,7 @@ after-shown s l i at ts bs =
     (λ j. rw (lt-ltb l (s .rows) j))
 
 -- each step of a wall that stands shows its part, and leaves the rest
-goes-on : (x : Wall) (ts bs : List ℕ) → Stands x →
+goes-on : (x : Wall) (ts : Pulses) (bs : List ℕ) → Stands x →
     from x ts bs ≡ step-of x ts bs .shows ++ from (step-of x ts bs .next) (step-of x ts bs .row) (drop (due-size x) bs)
 unfolding Stands step-of settings-step start-step row-step end-step stepped away place due-size shown start-shown rows-shown
 goes-on New ts bs i =
@@ -49,33 +50,33 @@ goes-on New ts bs i =
 goes-on (Start p) ts bs i =
     let s = p .settings in
     let all : s .rows - 0 ≡ s .rows = omega arith in
-    by-equal (start-number s bs) 0 (λ e. rw (eq-eqb (start-number s bs) 0 e, all)) (λ k. rw (ne-eqb (start-number s bs) 0 k))
+    by-equal (start-number s bs) 0 (λ e. rw (eq-eqb (start-number s bs) 0 e, all) (any-letters s (s .rows) _ _ [] (ts .letters) _)) (λ k. rw (ne-eqb (start-number s bs) 0 k))
 goes-on (Row p) ts bs i =
     let s = p .settings in
     let more : s .rows - p .row ≡ suc (s .rows - suc (p .row)) = omega (arith, i .1) in
-    by-equal (row-number s ts bs) 0
-    (λ e. rw (more, eq-eqb (row-number s ts bs) 0 e, after-shown s (suc (p .row)) (omega (arith, i .1))))
-    (λ k. rw (more, ne-eqb (row-number s ts bs) 0 k))
+    by-equal (row-number s (ts .times) bs) 0
+    (λ e. rw (more, eq-eqb (row-number s (ts .times) bs) 0 e, after-shown s (suc (p .row)) (omega (arith, i .1))))
+    (λ k. rw (more, ne-eqb (row-number s (ts .times) bs) 0 k))
 goes-on (End p) ts bs i =
     by-equal (length bs) 0 (λ e. rw (eq-eqb (length bs) 0 e) (sym (append-nil _))) (λ k. rw (ne-eqb (length bs) 0 k))
 goes-on Over ts bs i = refl
 
 -- the lines of it, of a step on a part and with a row that stands in a buffer
-abbrev pub lines-from : Wall → Unit {0} → (row rest : List ℕ) → List ℕ
+abbrev pub lines-from : Wall → Unit {0} → (row : Pulses) → (rest : List ℕ) → List ℕ
 lines-from x k ts bs = texts-of (from x ts bs)
 
-pub lines-stands : (x : Wall) (k : Unit {0}) (ts part : List ℕ) → Stands x → Stands (lines-step x k ts part .wall)
+pub lines-stands : (x : Wall) (k : Unit {0}) (ts : Pulses) (part : List ℕ) → Stands x → Stands (lines-step x k ts part .wall)
 unfolding lines-step
 lines-stands x k ts part i = step-stands x ts part i
 
-pub lines-one : (x : Wall) (k : Unit {0}) (ts us bs : List ℕ) → Stands x →
-    ((brings lines-step x k ts bs .wall ≡ Over → ⊥) → take (width-of x) us ≡ brings lines-step x k ts bs .row) →
-    lines-from x k (take (width-of x) ts) bs
+pub lines-one : (x : Wall) (k : Unit {0}) (ts us : Pulses) (bs : List ℕ) → Stands x →
+    ((brings lines-step x k ts bs .wall ≡ Over → ⊥) → cut (width-of x) us ≡ brings lines-step x k ts bs .row) →
+    lines-from x k (cut (width-of x) ts) bs
     ≡ brings lines-step x k ts bs .text
-    ++ lines-from (brings lines-step x k ts bs .wall) (brings lines-step x k ts bs .keeps) (take (width-of (brings lines-step x k ts bs .wall)) us) (drop (due-of x) bs)
+    ++ lines-from (brings lines-step x k ts bs .wall) (brings lines-step x k ts bs .keeps) (cut (width-of (brings lines-step x k ts bs .wall)) us) (drop (due-of x) bs)
 unfolding lines-step
 lines-one x k ts us bs i row =
-    let w = take (width-of x) ts in
+    let w = cut (width-of x) ts in
     let o = step-of x w (take (due-of x) bs) in
     let due = due-right x i in
     let same : step-of x w bs ≡ o = sym (part-enough x w bs) ∙ ap (λ (n : ℕ). step-of x w (take n bs)) (sym due) in
@@ -84,10 +85,10 @@ lines-one x k ts us bs i row =
     ∙ ap (λ (u : Stepped). texts-of (u .shows) ++ texts-of (from (u .next) (u .row) (drop (due-size x) bs))) same
     ∙ ap (λ (n : ℕ). texts-of (o .shows) ++ texts-of (from (o .next) (o .row) (drop n bs))) (sym due)
     ∙ ap (λ (l : List ℕ). texts-of (o .shows) ++ l)
-    (sym (row-kept (λ (y : Wall) (l : List ℕ). texts-of (from y l (drop (due-of x) bs))) (λ p us vs. refl) (λ us vs. refl) x w (take (due-of x) bs) us (o .row) row))
+    (sym (row-kept (λ (y : Wall) (l : Pulses). texts-of (from y l (drop (due-of x) bs))) (λ p us vs. refl) (λ us vs. refl) x w (take (due-of x) bs) us (o .row) row))
 
 -- the row that a step leaves fits its place in a buffer
-pub lines-fits : (x : Wall) (k : Unit {0}) (times held : List ℕ) → Stands x → (brings lines-step x k times held .wall ≡ Over → ⊥) →
-    take (width-of x) (brings lines-step x k times held .row) ≡ brings lines-step x k times held .row
+pub lines-fits : (x : Wall) (k : Unit {0}) (lent : Pulses) (held : List ℕ) → Stands x → (brings lines-step x k lent held .wall ≡ Over → ⊥) →
+    cut (width-of x) (brings lines-step x k lent held .row) ≡ brings lines-step x k lent held .row
 unfolding lines-step
-lines-fits x k times held i more = row-fits x times (take (due-of x) held) i more
+lines-fits x k lent held i more = row-fits x lent (take (due-of x) held) i more

@@ -4,6 +4,7 @@ use Prim.Native.Nat.{_≤_}
 use native.Mathlib.Omega.{arith}
 use lib.ListN.{length}
 use lib.Seq.{length-take-le}
+use Rattle.row.specs.Row.{Pulses, pulses}
 use Rattle.print.proofs.Laws.Advanced.{never-unfit, advanced}
 use borrow.Author.Needs.{needs}
 use Rattle.print.proofs.advance.Statement.{statement}
@@ -11,16 +12,23 @@ use Rattle.print.proofs.advance.Tie as tie
 
 -- the start of the function, from where the width is known, and the step from where it is told
 abbrev start : tie.After-width → tie.Start
-start w = w .before .before .before .before .before .before .before .before
+start w = w .before .before .before .before .before .before .before .before .before
 
-abbrev taken : tie.After-slice-known6 → tie.After-step-by
-taken c = c .before .before .before .before .before .before
+-- the buffers of the wall's row
+abbrev lent : tie.Start → Pulses
+lent s = pulses (s .args .row .now) (s .args .letters .now)
+
+abbrev taken : tie.After-slice-known8 → tie.After-step-by
+taken c = c .before .before .before .before .before .before .before .before
 
 abbrev known : tie.After-step-by → tie.After-width
-known c = c .before .before .before .before .before
+known c = c .before .before .before .before .before .before
 
 wide : (w : tie.After-width) → w .width .result ≤ length (start w .args .row .now)
 wide w = omega (arith, w .width .ensures .1, start w .pre .3)
+
+letters-wide : (w : tie.After-width) → w .width .result ≤ length (start w .args .letters .now)
+letters-wide w = omega (arith, w .width .ensures .1, start w .pre .4)
 
 part-end-requires : tie.Need-part-end-requires
 part-end-requires c κs = search needs
@@ -43,8 +51,14 @@ slice-relend-prefix-step-by c = wide (c .before .before)
 slice-aggregate-step-by : tie.Need-slice-aggregate-step-by
 slice-aggregate-step-by c = sym (length-take-le _ _ (wide (c .before .before .before)))
 
+slice-relend-prefix-step-by-2 : tie.Need-slice-relend-prefix-step-by-2
+slice-relend-prefix-step-by-2 c = letters-wide (c .before .before .before)
+
+slice-aggregate-step-by-2 : tie.Need-slice-aggregate-step-by-2
+slice-aggregate-step-by-2 c = sym (length-take-le _ _ (letters-wide (c .before .before .before .before)))
+
 step-by-requires : tie.Need-step-by-requires
-step-by-requires c κs = let s = start (c .before .before .before .before) in (s .pre .0, s .pre .1)
+step-by-requires c κs = let s = start (c .before .before .before .before .before) in (s .pre .0, s .pre .1)
 
 enum-known-went : tie.Need-enum-known-went
 enum-known-went c = search needs
@@ -64,16 +78,17 @@ same-length-2 c = search needs
 same-length-3 : tie.Need-same-length-3
 same-length-3 c = search needs
 
+same-length-4 : tie.Need-same-length-4
+same-length-4 c = search needs
+
 returns : tie.Need-returns
 returns c =
     let t = taken (c .before .before .before .before) in
     let w = known t in
     let s = start w in
-    advanced (s .args .state) (s .args .input .now) (s .args .row .now) (s .args .output .now) (s .pre .2) (s .pre .4) _ _
-    (w .before .part-end .ensures) (w .width .ensures .0) (wide w) _ _ _ _ _ (t .step-by .ensures) (c .before .before .went .given .1) (c .stepped .ensures) (search needs)
-
-same-length-4 : tie.Need-same-length-4
-same-length-4 c = search needs
+    advanced (s .args .state) (s .args .input .now) (lent s) (s .args .output .now) (s .pre .2) (s .pre .5) _ _
+    (w .before .part-end .ensures) (w .width .ensures .0) (wide w) (letters-wide w) _ _ _ _ _ (t .step-by .ensures) (c .before .before .went .given .1) (c .stepped .ensures)
+    (t .step-by .kept .1 .1 .1 .1 .0) (t .step-by .kept .1 .1 .1 .1 .1 .0)
 
 same-length-5 : tie.Need-same-length-5
 same-length-5 c = search needs
@@ -81,14 +96,20 @@ same-length-5 c = search needs
 same-length-6 : tie.Need-same-length-6
 same-length-6 c = search needs
 
+same-length-7 : tie.Need-same-length-7
+same-length-7 c = search needs
+
+same-length-8 : tie.Need-same-length-8
+same-length-8 c = search needs
+
 returns-2 : tie.Need-returns-2
 returns-2 c =
     let t = taken (c .before .before) in
     let w = known t in
     let s = start w in
     absurd
-    (never-unfit (s .args .state) (s .args .input .now) (s .args .row .now) (s .args .output .now) (s .pre .2) (s .pre .4) _ _
-    (w .before .part-end .ensures) (w .width .ensures .0) (wide w) _ _ _ (t .step-by .ensures) (c .enum-told .given .1))
+    (never-unfit (s .args .state) (s .args .input .now) (lent s) (s .args .output .now) (s .pre .2) (s .pre .5) _ _
+    (w .before .part-end .ensures) (w .width .ensures .0) (wide w) (letters-wide w) _ _ _ (t .step-by .ensures) (c .enum-told .given .1))
 
 pub advance-spec : {M : Type 1} → statement M
 advance-spec =
@@ -101,6 +122,8 @@ advance-spec =
     part-step-by-end
     slice-relend-prefix-step-by
     slice-aggregate-step-by
+    slice-relend-prefix-step-by-2
+    slice-aggregate-step-by-2
     step-by-requires
     enum-known-went
     stepped-requires
@@ -108,8 +131,10 @@ advance-spec =
     same-length
     same-length-2
     same-length-3
-    returns
     same-length-4
+    returns
     same-length-5
     same-length-6
+    same-length-7
+    same-length-8
     returns-2)

@@ -5,6 +5,7 @@ use Prim.Native.Nat.{_≤_}
 use native.Mathlib.Omega.{arith}
 use borrow.Author.Needs.{needs}
 use lib.ListN.{length}
+use Rattle.row.specs.Row.{pulses}
 use Rattle.stages.specs.Fit.{due-of}
 use Rattle.file.specs.Stands.{steps-left}
 use Rattle.file.proofs.Laws.Stands.{none-due}
@@ -17,25 +18,25 @@ use Rattle.print.proofs.run_in.Statement.{statement}
 use Rattle.print.proofs.run_in.Tie as tie
 
 abbrev Inv-loop : tie.InvT-loop
-Inv-loop from to tables links₀ input₀ row₀ output₀ state₀ links input row output state =
-    (length links ≡ length links₀) × (length input ≡ length input₀) × (length row ≡ length row₀) × (length output ≡ length output₀)
-    × Standing lines-step tt state tt input row output
+Inv-loop from to tables links₀ input₀ row₀ letters₀ output₀ state₀ links input row letters output state =
+    (length links ≡ length links₀) × (length input ≡ length input₀) × (length row ≡ length row₀) × (length letters ≡ length letters₀)
+    × (length output ≡ length output₀) × Standing lines-step tt state tt input (pulses row letters) output
 
 abbrev μ-loop : tie.MeasureT-loop
-μ-loop from to tables links₀ input₀ row₀ output₀ state₀ links input row output state = steps-left (state .wall)
+μ-loop from to tables links₀ input₀ row₀ letters₀ output₀ state₀ links input row letters output state = steps-left (state .wall)
 
 -- the start of the function, the loop's head, and the answer of `ready`
 abbrev start : tie.At-loop Inv-loop μ-loop → tie.Start Inv-loop μ-loop
-start c = c .before .before .before .before .before .before .before
+start c = c .before .before .before .before .before .before .before .before
 
 abbrev head : tie.After-ready Inv-loop μ-loop → tie.At-loop Inv-loop μ-loop
 head c = c .before .before .before .before .before
 
-abbrev asked : tie.After-slice-known5 Inv-loop μ-loop → tie.After-ready Inv-loop μ-loop
+abbrev asked : tie.After-slice-known6 Inv-loop μ-loop → tie.After-ready Inv-loop μ-loop
 asked c = c .before .before
 
-abbrev stepped : tie.After-slice-known8 Inv-loop μ-loop → tie.After-advance Inv-loop μ-loop
-stepped c = c .before .before .before .before .before .before
+abbrev stepped : tie.After-slice-known10 Inv-loop μ-loop → tie.After-advance Inv-loop μ-loop
+stepped c = c .before .before .before .before .before .before .before .before
 
 made : (c : tie.After-next Inv-loop μ-loop) →
     let r = asked (c .before .before) in
@@ -49,7 +50,7 @@ start-requires : tie.Need-start-requires Inv-loop μ-loop
 start-requires c κs = search needs
 
 loop-holds : tie.Need-loop-holds Inv-loop μ-loop
-loop-holds c = (refl, refl, refl, refl, run.begun lines-step tt _ _ _ _ (c .start .ensures))
+loop-holds c = (refl, refl, refl, refl, refl, run.begun lines-step tt _ _ _ _ (c .start .ensures))
 
 due-requires : tie.Need-due-requires Inv-loop μ-loop
 due-requires c κs = search needs
@@ -57,7 +58,7 @@ due-requires c κs = search needs
 finish-requires : tie.Need-finish-requires Inv-loop μ-loop
 finish-requires c κs =
     let at = c .before .before .before in
-    let i = at .loop .inv .4 .between in
+    let i = at .loop .inv .5 .between in
     (none-due (at .loop .state .wall) (i .stands) (sym (c .before .before .due .ensures .0) ∙ c .before .if1 .taken), i .text)
 
 same-length : tie.Need-same-length Inv-loop μ-loop
@@ -72,10 +73,13 @@ same-length-3 c = search needs
 same-length-4 : tie.Need-same-length-4 Inv-loop μ-loop
 same-length-4 c = search needs
 
+same-length-5 : tie.Need-same-length-5 Inv-loop μ-loop
+same-length-5 c = search needs
+
 returns : tie.Need-returns Inv-loop μ-loop
 returns c =
     let at = c .before .before .before .before in
-    let i = at .loop .inv .4 in
+    let i = at .loop .inv .5 in
     let over = none-due (at .loop .state .wall) (i .between .stands) (sym (c .before .before .before .due .ensures .0) ∙ c .before .before .if1 .taken) in
     run.finishes lines-step tt _ _ tt _ _ _ over i (c .finish .ensures)
 
@@ -85,39 +89,37 @@ ready-requires c κs =
     let due = c .before .before .before .due in
     let s = start at in
     let input : 6710 ≤ length (at .loop .input) = omega (arith, at .loop .inv .1, s .pre .2) in
-    (at .loop .inv .4 .between, input, omega (arith, at .loop .inv .3, s .pre .4), due .ensures .0, due .ensures .1)
+    (at .loop .inv .5 .between, input, omega (arith, at .loop .inv .4, s .pre .5), due .ensures .0, due .ensures .1)
 
 enum-known-next : tie.Need-enum-known-next Inv-loop μ-loop
 enum-known-next c = search needs
 
 advance-requires : tie.Need-advance-requires Inv-loop μ-loop
 advance-requires c κs =
-    let n = c .before .before .before .before .before in
+    let n = c .before .before .before .before .before .before in
     let at = head (asked (n .before .before)) in
     let s = start at in
     let links : 770 ≤ length (at .loop .links) = omega (arith, at .loop .inv .0, s .pre .1) in
     let row : 256 ≤ length (at .loop .row) = omega (arith, at .loop .inv .2, s .pre .3) in
-    (s .pre .0, links, ready-between _ _ _ _ _ (at .loop .inv .4 .between) (made n), row, made n .room)
+    let letters : 256 ≤ length (at .loop .letters) = omega (arith, at .loop .inv .3, s .pre .4) in
+    (s .pre .0, links, ready-between _ _ _ _ _ (at .loop .inv .5 .between) (made n), row, letters, made n .room)
 
 loop-less : tie.Need-loop-less Inv-loop μ-loop
 loop-less c =
     let a = stepped c in
-    let n = a .before .before .before .before .before .before in
+    let n = a .before .before .before .before .before .before .before in
     let r = asked (n .before .before) in
-    run.turn-less lines-step tt lines-ahead _ _ _ tt tt _ _ _ _ _ _ (some r) (head r .loop .inv .4) (made n) (a .advance .ensures)
+    run.turn-less lines-step tt lines-ahead _ _ _ tt tt _ _ _ _ _ _ (some r) (head r .loop .inv .5) (made n) (a .advance .ensures)
 
 loop-again : tie.Need-loop-again Inv-loop μ-loop
 loop-again c =
     let a = stepped c in
-    let n = a .before .before .before .before .before .before in
+    let n = a .before .before .before .before .before .before .before in
     let r = asked (n .before .before) in
-    (omega arith, omega arith, omega arith, omega arith, run.turn-standing lines-step tt lines-ahead _ _ _ tt tt _ _ _ _ _ _ (some r) (head r .loop .inv .4) (made n) (a .advance .ensures))
+    (omega arith, omega arith, omega arith, omega arith, omega arith, run.turn-standing lines-step tt lines-ahead _ _ _ tt tt _ _ _ _ _ _ (some r) (head r .loop .inv .5) (made n) (a .advance .ensures))
 
 enum-known-ended : tie.Need-enum-known-ended Inv-loop μ-loop
 enum-known-ended c = search needs
-
-same-length-5 : tie.Need-same-length-5 Inv-loop μ-loop
-same-length-5 c = search needs
 
 same-length-6 : tie.Need-same-length-6 Inv-loop μ-loop
 same-length-6 c = search needs
@@ -128,10 +130,16 @@ same-length-7 c = search needs
 same-length-8 : tie.Need-same-length-8 Inv-loop μ-loop
 same-length-8 c = search needs
 
+same-length-9 : tie.Need-same-length-9 Inv-loop μ-loop
+same-length-9 c = search needs
+
+same-length-10 : tie.Need-same-length-10 Inv-loop μ-loop
+same-length-10 c = search needs
+
 returns-2 : tie.Need-returns-2 Inv-loop μ-loop
 returns-2 c =
     let r = asked (c .before .before .before) in
-    run.stopped lines-step tt _ tt _ _ _ _ (ready-off _ _ _ _ _ _ (c .before .ended .given .1) (r .ready .ensures)) (head r .loop .inv .4)
+    run.stopped lines-step tt _ tt _ _ _ _ (ready-off _ _ _ _ _ _ (c .before .ended .given .1) (r .ready .ensures)) (head r .loop .inv .5)
 
 pub run-in-spec : {M : Type 1} → statement M
 run-in-spec =
@@ -147,6 +155,7 @@ run-in-spec =
     same-length-2
     same-length-3
     same-length-4
+    same-length-5
     returns
     ready-requires
     enum-known-next
@@ -154,8 +163,9 @@ run-in-spec =
     loop-less
     loop-again
     enum-known-ended
-    same-length-5
     same-length-6
     same-length-7
     same-length-8
+    same-length-9
+    same-length-10
     returns-2)

@@ -17,7 +17,7 @@ module _ {P : (own a b : ℕ) → Type 0} where
   arranged-map Q (suc zero) x y z g h p = h y x z p
   arranged-map Q (suc (suc n)) x y z g h p = h z x y p
 
-  pub arranged-same : {v : ℕ} (n x y z : ℕ) (f : (own a b : ℕ) → ℕ) → ((own a b : ℕ) → P own a b → f own a b ≡ v) →
+  pub arranged-same : {A : Type 0} {v : A} (n x y z : ℕ) (f : (own a b : ℕ) → A) → ((own a b : ℕ) → P own a b → f own a b ≡ v) →
       arranged n P x y z → arranged n f x y z ≡ v
   unfolding arranged
   arranged-same zero x y z f h p = h x y z p

@@ -1,4 +1,4 @@
--- The tiles of a plain stretch of an accepted row: their predecessors are correct, and their pulse is that of three stamps that
+-- The tiles of a plain stretch of an accepted row: their predecessors are correct, and their pulse and letter are those of three stamps that
 -- are heard. Assumes nothing.
 use mathlib.Core.Path.{_≡_, sym, _∙_}
 use mathlib.Core.Bool.{false}
@@ -14,8 +14,9 @@ use Rattle.settings.proofs.Laws.Settings.{Limits, limits}
 use Rattle.admission.specs.Call.{Call}
 use Rattle.columns.specs.Marks.{marked}
 use Rattle.columns.specs.Plain.{Plain}
-use Rattle.pulse.specs.Pulse.{stamp, pulse}
+use Rattle.pulse.specs.Pulse.{stamp, pulsed-at}
 use Rattle.pulse.specs.Plain.{Receivable, received, from-left, from-own, from-right, Correct, correct-pulse}
+use Rattle.pulse.specs.declared.Pulsed.{Pulsed}
 use Rattle.columns.proofs.Laws.Columns.{links-inner, neighbours-inner}
 use Rattle.admission.proofs.Laws.Accepted.{Accepted}
 use Rattle.admission.proofs.Laws.Quiet.{quiet-column}
@@ -104,6 +105,6 @@ module _ {s : Settings} {ts : List ℕ} {x : Call} (r : Accepted s ts x) {c : �
           held = bounds .hold .1;
         }
 
-    pub plain-pulse : {v : ℕ} → v ≡ correct-pulse s step drift ts (x .links) k → v ≡ pulse s ts x k
+    pub plain-pulse : {v : Pulsed} → v ≡ correct-pulse s step drift ts (x .links) k → v ≡ pulsed-at s ts x k
     unfolding correct-pulse
     plain-pulse h = pulses-at (pulsing step) e h

@@ -1,5 +1,5 @@
--- What the code makes of a link, what it asks before it reads one, and the pulse of a tile of an accepted row by the codes of its
--- stamps. Assumes nothing.
+-- What the code makes of a link, what it asks before it reads one, and the pulse and letter of a tile of an accepted row by the
+-- codes of its stamps. Assumes nothing.
 use mathlib.Core.Path.{_≡_, refl, sym, _∙_, ap, subst}
 use mathlib.Core.Bool.{true, false}
 use mathlib.Core.List.{List, [], _∷_, map}
@@ -7,10 +7,10 @@ use Prim.Native.Nat.{ℕ, _+_, _*_, _≤_, _<_, min, max}
 use lib.ListN.{length, getD}
 use native.Mathlib.Omega.{arith}
 use Rattle.settings.specs.Settings.{step-of}
-use Rattle.rule.specs.Clock.{reads, first-tick}
-use Rattle.rule.specs.Stamp.{Stamp, _≼_, silence, stamp-of, code-of, earliest, latest, latest-stamp, All, none, more}
-use Rattle.rule.specs.Closed.{closed-P, Forwardable}
-use Rattle.rule.specs.Pulse.{tile-P, tile-pulse}
+use Rattle.rule.specs.Clock.{reads}
+use Rattle.rule.specs.Stamp.{Stamp, _≼_, silence, code-of, earliest, latest, latest-stamp, All, none, more}
+use Rattle.rule.specs.Closed.{Forwardable}
+use Rattle.rule.specs.Pulse.{tile-P, tile-pulse, tile-letter}
 use Rattle.settings.specs.declared.Settings.{Settings}
 use Rattle.rule.proofs.Promises.{closed}
 use Rattle.settings.proofs.Laws.Settings.{limits}
@@ -21,7 +21,9 @@ use Rattle.rule.proofs.Laws.Coded.{stamp-silent, stamp-heard, code-stamp, earli
 use Rattle.columns.specs.Columns.{neighbours, link}
 use Rattle.admission.specs.Call.{Call}
 use Rattle.columns.specs.Marks.{marked, mark-bytes}
-use Rattle.pulse.specs.Pulse.{arrives, arrival, read-at, stamp, pulse}
+use Rattle.pulse.specs.Pulse.{arrives, arrival, read-at, stamp, pulse, letter-at, pulsed-at}
+use Rattle.pulse.specs.Pulsed.{pulsed}
+use Rattle.pulse.specs.declared.Pulsed.{Pulsed}
 use Rattle.pulse.specs.Stampable.{Stampable, stamped}
 use Rattle.pulse.specs.Plain.{received}
 use Rattle.columns.proofs.Laws.Columns.{own}
@@ -43,10 +45,10 @@ module _ (p : ℕ) (ts ms ls : List ℕ) (k i : ℕ) where
   unfolding stamped code-of read-at arrives received
   stamped-correct e = rw e
 
--- what the rule takes, and the pulse, by the codes of own and of the earliest and latest neighbour
+-- what the rule takes, and the pulse and its letter, by the codes of own and of the earliest and latest neighbour
 pub record Pulsing (s : Settings) (ts : List ℕ) (x : Call) (c o l m : ℕ) : Type 0 where
   pub ready : Forwardable (s .unit) (step-of s) o l m
-  pub pulses : pulse s ts x c ≡ first-tick (getD (x .drifts) c 0) 0 (closed-P (s .unit) (step-of s) (stamp-of o) (stamp-of l) (stamp-of m) + s .hold)
+  pub pulses : pulsed-at s ts x c ≡ pulsed s (step-of s) (getD (x .drifts) c 0) o l m
 
 ordered : (xs : List Stamp) → 2 ≤ length xs → earliest xs ≼ latest xs
 ordered [] i = let never : ⊥ = omega arith in absurd never
@@ -85,7 +87,7 @@ module _ {s : Settings} {ts : List ℕ} {x : Call} (r : Accepted s ts x) (c : �
   small = omega arith
 
   pulsing : {o l m : ℕ} → o ≡ code-of (heard-at c) → l ≡ code-of (earliest beside-it) → m ≡ code-of (latest beside-it) → Pulsing s ts x c o l m
-  unfolding pulse tile-pulse
+  unfolding pulse tile-pulse letter-at tile-letter
   pulsing {o} {l} {m} a b d =
       let k = limits s (r .settings) in
       let t = tile-of r c i (stamp (s .width) ts x c) in
@@ -133,5 +135,5 @@ module _ {s : Settings} {ts : List ℕ} {x : Call} {c o l m : ℕ} (g : Pulsing 
   pub ready-at : Forwardable (s .unit) j o l m
   ready-at = rw e (g .ready)
 
-  pub pulses-at : {v : ℕ} → v ≡ first-tick (getD (x .drifts) c 0) 0 (closed-P (s .unit) j (stamp-of o) (stamp-of l) (stamp-of m) + s .hold) → v ≡ pulse s ts x c
+  pub pulses-at : {v : Pulsed} → v ≡ pulsed s j (getD (x .drifts) c 0) o l m → v ≡ pulsed-at s ts x c
   pulses-at h = h ∙ rw e (sym (g .pulses))

@@ -8,14 +8,15 @@ use native.Mathlib.Omega.{arith}
 use Rattle.settings.specs.Settings.{step-of}
 use Rattle.settings.specs.declared.Settings.{Settings}
 use Rattle.settings.proofs.Laws.Settings.{limits}
-use Rattle.rule.specs.Clock.{first-tick}
-use Rattle.rule.specs.Stamp.{stamp-of, code-of}
-use Rattle.rule.specs.Closed.{closed-P, Forwardable}
+use Rattle.rule.specs.Stamp.{code-of}
+use Rattle.rule.specs.Closed.{Forwardable}
 use Rattle.columns.specs.Columns.{neighbours, links-before}
 use Rattle.columns.specs.Window.{first-sender, four-senders}
 use Rattle.admission.specs.Call.{Call}
 use Rattle.admission.proofs.Laws.Accepted.{Accepted}
-use Rattle.pulse.specs.Pulse.{stamp, pulse}
+use Rattle.pulse.specs.Pulse.{stamp, pulsed-at}
+use Rattle.pulse.specs.Pulsed.{pulsed}
+use Rattle.pulse.specs.declared.Pulsed.{Pulsed}
 use Rattle.pulse.specs.Stampable.{Stampable, stamped}
 use Rattle.pulse.specs.Arranged.{arranged}
 use Rattle.pulse.proofs.Laws.Arranged.{arranged-map, arranged-same}
@@ -60,8 +61,8 @@ module _ {s : Settings} {ts : List ℕ} {x : Call} {c k p : ℕ} (t : Found s ts
   is-heard : {v : ℕ} (n : ℕ) → n < 3 → v ≡ read n → v ≡ heard (k + n)
   is-heard n i e = e ∙ code (t .row) c (t .here) (at-place n i)
 
-  abbrev ticks : (j own l m : ℕ) → ℕ
-  ticks j own l m = first-tick (getD (x .drifts) c 0) 0 (closed-P (s .unit) j (stamp-of own) (stamp-of l) (stamp-of m) + s .hold)
+  abbrev fixed : (j own l m : ℕ) → Pulsed
+  fixed j own l m = pulsed s j (getD (x .drifts) c 0) own l m
 
   -- own's place
   pub own-after : k ≤ c
@@ -94,8 +95,8 @@ module _ {s : Settings} {ts : List ℕ} {x : Call} {c k p : ℕ} (t : Found s ts
       ready : arranged (c - k) (λ own a b. Forwardable (s .unit) j own (low a b) (high a b)) u v z
       ready = arranged-map (λ own a b. Forwardable (s .unit) j own (low a b) (high a b)) (c - k) u v z (λ n. n) (λ own a b q. ready-at q (h .step)) g
 
-      pulses : {r : ℕ} → r ≡ arranged (c - k) (λ own a b. ticks j own (low a b) (high a b)) u v z → r ≡ pulse s ts x c
-      pulses e = e ∙ arranged-same (c - k) u v z (λ own a b. ticks j own (low a b) (high a b)) (λ own a b q. pulses-at q (h .step) refl) g
+      pulses : {r : Pulsed} → r ≡ arranged (c - k) (λ own a b. fixed j own (low a b) (high a b)) u v z → r ≡ pulsed-at s ts x c
+      pulses e = e ∙ arranged-same (c - k) u v z (λ own a b. fixed j own (low a b) (high a b)) (λ own a b q. pulses-at q (h .step) refl) g
 
     of-three : four-senders (s .width) c ≡ false → arranged (c - k) (λ own a b. Pulsing s ts x c own (min a b) (max a b)) u v z
     of-three f = by-place (λ own a b. Pulsing s ts x c own (min a b) (max a b)) (λ a b e. pulse-two (t .row) c (t .here) (rw f at e) refl refl refl)
@@ -103,7 +104,7 @@ module _ {s : Settings} {ts : List ℕ} {x : Call} {c k p : ℕ} (t : Found s ts
     pub ready-three : four-senders (s .width) c ≡ false → arranged (c - k) (λ own a b. Forwardable (s .unit) j own (min a b) (max a b)) u v z
     ready-three f = ready (λ a b. min a b) (λ a b. max a b) (of-three f)
 
-    pub pulse-of-three : four-senders (s .width) c ≡ false → {r : ℕ} → r ≡ arranged (c - k) (λ own a b. ticks j own (min a b) (max a b)) u v z → r ≡ pulse s ts x c
+    pub pulse-of-three : four-senders (s .width) c ≡ false → {r : Pulsed} → r ≡ arranged (c - k) (λ own a b. fixed j own (min a b) (max a b)) u v z → r ≡ pulsed-at s ts x c
     pulse-of-three f = pulses (λ a b. min a b) (λ a b. max a b) (of-three f)
 
     module _ {d : ℕ} (f : four-senders (s .width) c ≡ true) (is-d : d ≡ read 3) where
@@ -115,5 +116,5 @@ module _ {s : Settings} {ts : List ℕ} {x : Call} {c k p : ℕ} (t : Found s ts
       pub ready-four : arranged (c - k) (λ own a b. Forwardable (s .unit) j own (min (min a b) d) (max (max a b) d)) u v z
       ready-four = ready (λ a b. min (min a b) d) (λ a b. max (max a b) d) of-four
 
-      pub pulse-of-four : {r : ℕ} → r ≡ arranged (c - k) (λ own a b. ticks j own (min (min a b) d) (max (max a b) d)) u v z → r ≡ pulse s ts x c
+      pub pulse-of-four : {r : Pulsed} → r ≡ arranged (c - k) (λ own a b. fixed j own (min (min a b) d) (max (max a b) d)) u v z → r ≡ pulsed-at s ts x c
       pulse-of-four = pulses (λ a b. min (min a b) d) (λ a b. max (max a b) d) of-four

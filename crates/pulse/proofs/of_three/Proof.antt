@@ -1,24 +1,7 @@
--- `of_three` meets its contract: the rule's P from three neighbours, and the first tick that reads P and the hold. Assumes nothing.
-use mathlib.Core.Path.{_≡_}
-use Prim.Native.Nat.{_≤_, min, max}
-use native.Mathlib.Omega.{arith}
+-- `of_three` meets its contract: the earliest and the latest of three neighbours. Assumes nothing.
 use borrow.Author.Needs.{needs}
-use Rattle.rule.specs.Stamp.{stamp-of}
-use Rattle.rule.specs.Closed.{closed-P}
-use Rattle.rule.proofs.Laws.Coded.{P-small}
 use Rattle.pulse.proofs.of_three.Statement.{statement}
 use Rattle.pulse.proofs.of_three.Tie as tie
-
-abbrev start : tie.After-adopted → tie.Start
-start c = c .before .before .before .before .before
-
-adopted-is : (c : tie.After-adopted) →
-    let a = start c .args in
-    c .adopted .result ≡ closed-P (a .settings .unit) (a .step) (stamp-of (a .own)) (stamp-of (min (min (a .a) (a .b)) (a .d))) (stamp-of (max (max (a .a) (a .b)) (a .d)))
-adopted-is c = rw (c .before .before .before .smaller2 .ensures, c .before .before .before .before .smaller .ensures, c .before .larger2 .ensures, c .before .before .larger .ensures) at (c .adopted .ensures)
-
-small : (c : tie.After-adopted) → c .adopted .result ≤ 4398046698604
-small c = rw (adopted-is c) (P-small (start c .pre .0))
 
 smaller-requires : tie.Need-smaller-requires
 smaller-requires c κs = search needs
@@ -32,27 +15,17 @@ larger-requires c κs = search needs
 larger-requires-2 : tie.Need-larger-requires-2
 larger-requires-2 c κs = search needs
 
-adopted-requires : tie.Need-adopted-requires
-adopted-requires c κs = rw (c .before .before .smaller2 .ensures, c .before .before .before .smaller .ensures, c .larger2 .ensures, c .before .larger .ensures) (c .before .before .before .before .pre .0)
-
-add-first-tick : tie.Need-add-first-tick
-add-first-tick c = omega (arith, small (c .before), start (c .before) .pre .1)
-
-first-tick-requires : tie.Need-first-tick-requires
-first-tick-requires c κs = omega (arith, small (c .before), start (c .before) .pre .1)
+by-ends-requires : tie.Need-by-ends-requires
+by-ends-requires c κs =
+    let s = c .before .before in
+    rw (s .smaller2 .ensures, s .before .smaller .ensures, c .larger2 .ensures, c .before .larger .ensures) (s .before .before .pre)
 
 returns : tie.Need-returns
-returns c = rw (adopted-is (c .before .before)) at (c .first-tick .ensures)
+returns c =
+    let m = c .before in
+    let s = m .before .before in
+    rw (s .smaller2 .ensures, s .before .smaller .ensures, m .larger2 .ensures, m .before .larger .ensures) at (c .by-ends .ensures)
 
 pub of-three-spec : {M : Type 1} → statement M
 of-three-spec =
-    tie.close
-    (tie.spec
-    smaller-requires
-    smaller-requires-2
-    larger-requires
-    larger-requires-2
-    adopted-requires
-    add-first-tick
-    first-tick-requires
-    returns)
+    tie.close (tie.spec smaller-requires smaller-requires-2 larger-requires larger-requires-2 by-ends-requires returns)

@@ -15,7 +15,7 @@ use Rattle.pulse.proofs.pulse.Tie as tie
 
 -- what was lent, and what an accepted row keeps
 abbrev lent : tie.Start → Call
-lent s = call (s .args .marks .now) (s .args .drifts .now) (s .args .links .now) (s .args .settings .width)
+lent s = call (s .args .marks .now) (s .args .drifts .now) (s .args .links .now) (s .args .settings .width) (s .args .settings .width)
 
 ok : (s : tie.Start) → Accepted (s .args .settings) (s .args .before .now) (lent s)
 ok s = accepted (s .args .settings) (s .args .before .now) (lent s) (s .pre .0)

@@ -62,8 +62,7 @@ returns-3 : tie.Need-returns-3
 returns-3 c =
     let t = c .before in
     let a = start (t .before) .args in
-    c .received .ensures
-    ∙ sym (stamped-correct (a .drift) (a .before .now) (a .marks .now) (a .links .now) (a .first + a .place) (a .at + a .place) (is-correct t))
+    rw (stamped-correct (a .drift) (a .before .now) (a .marks .now) (a .links .now) (a .first + a .place) (a .at + a .place) (is-correct t)) (c .received .ensures)
 
 pub stamp-spec : {M : Type 1} → statement M
 stamp-spec =

@@ -12,7 +12,7 @@ use Rattle.reach.specs.Survey.{surveyed-of}
 use Rattle.reach.specs.declared.survey.Surveyed.{Surveyed}
 use Rattle.reach.specs.declared.survey.Surveyed.the-variants as surveyed
 use Rattle.lines.specs.Line.{refused-line}
-use Rattle.row.specs.Row.{row-of}
+use Rattle.row.specs.Row.{Pulses, pulses, row-of}
 use Rattle.fields.specs.Field.{body}
 use Rattle.contents.specs.Contents.{start-size, times-in, row-size, marks-in, call-in}
 use Rattle.steps.specs.Number.{settings-number, start-number, row-number, row-offset}
@@ -50,30 +50,30 @@ after-told asked s l at m ts bs i =
 -- a step is told of the whole rest of the file as of its part
 pub part-told : (asked : List ℕ) (x : Wall) (m : ℕ) (ts bs : List ℕ) → telling asked x m ts (take (due-size x) bs) ≡ telling asked x m ts bs
 unfolding telling step-says due-size
-part-told asked New m ts bs = rw (part-enough New ts bs)
-part-told asked (Start p) m ts bs = rw (part-enough (Start p) ts bs)
-part-told asked (Row p) m ts bs = rw (part-enough (Row p) ts bs, marks-part (p .settings .width) bs)
-part-told asked (End p) m ts bs = rw (part-enough (End p) ts bs)
-part-told asked Over m ts bs = rw (part-enough Over ts bs)
+part-told asked New m ts bs = rw (part-enough New (pulses ts []) bs)
+part-told asked (Start p) m ts bs = rw (part-enough (Start p) (pulses ts []) bs)
+part-told asked (Row p) m ts bs = rw (part-enough (Row p) (pulses ts []) bs, marks-part (p .settings .width) bs)
+part-told asked (End p) m ts bs = rw (part-enough (End p) (pulses ts []) bs)
+part-told asked Over m ts bs = rw (part-enough Over (pulses ts []) bs)
 
 -- what a step tells, and what is told from the wall and the row that it leaves
 abbrev pub goes-on : (asked : List ℕ) → Wall → (m : ℕ) → (row rest : List ℕ) → List ℕ
 goes-on asked x m ts bs =
     let t = telling asked x m ts bs in
-    t .text ++ from asked (t .wall) (t .largest) (step-of x ts bs .row) (drop (due-size x) bs)
+    t .text ++ from asked (t .wall) (t .largest) (step-of x (pulses ts []) bs .row .times) (drop (due-size x) bs)
 
 module _ (asked : List ℕ) where
   -- a step that is turned away
-  told-refused : (x : Wall) (m : ℕ) (ts bs : List ℕ) (n at : ℕ) → step-of x ts bs ≡ away ts n at → (n ≡ 0 → ⊥) → goes-on asked x m ts bs ≡ refused-line n at
+  told-refused : (x : Wall) (m : ℕ) (ts bs : List ℕ) (n at : ℕ) → step-of x (pulses ts []) bs ≡ away (pulses ts []) n at → (n ≡ 0 → ⊥) → goes-on asked x m ts bs ≡ refused-line n at
   told-refused x m ts bs n at e k =
-      let number : number-shown (step-of x ts bs .shows) ≡ n = rw e (unfold away stepped number-shown in refl) in
-      let offset : offset-shown (step-of x ts bs .shows) ≡ at = rw e (unfold away stepped offset-shown in refl) in
-      let wall : step-of x ts bs .next ≡ Over = rw e (unfold away stepped in refl) in
+      let number : number-shown (step-of x (pulses ts []) bs .shows) ≡ n = rw e (unfold away stepped number-shown in refl) in
+      let offset : offset-shown (step-of x (pulses ts []) bs .shows) ≡ at = rw e (unfold away stepped offset-shown in refl) in
+      let wall : step-of x (pulses ts []) bs .next ≡ Over = rw e (unfold away stepped in refl) in
       let t : telling asked x m ts bs ≡ says Over m (refused-line n at) = told-away asked x m ts bs (λ z. k (sym number ∙ z)) ∙ rw (number, offset, wall) in
       rw t (unfold says in append-nil (refused-line n at))
 
   -- a step that is taken
-  told-taken : (x y : Wall) (m : ℕ) (ts row bs : List ℕ) (xs : List _) → step-of x ts bs ≡ stepped y row xs → number-shown xs ≡ 0 →
+  told-taken : (x y : Wall) (m : ℕ) (ts : List ℕ) (row : Pulses) (bs : List ℕ) (xs : List _) → step-of x (pulses ts []) bs ≡ stepped y row xs → number-shown xs ≡ 0 →
       telling asked x m ts bs ≡ step-says asked x y m ts bs
   told-taken x y m ts row bs xs e z =
       told-on asked x m ts bs (ap (λ (o : Stepped). number-shown (o .shows)) e ∙ (unfold stepped in z))
@@ -84,20 +84,20 @@ module _ (asked : List ℕ) where
   unfolding file-told step-of step-says says place due-size number-shown
   settings-told m ts bs =
       by-equal (settings-number bs) 0
-      (λ e. let t = told-taken New _ m ts ts bs [] (settings-goes ts bs e) refl in rw (eq-eqb (settings-number bs) 0 e, t))
-      (λ k. rw (ne-eqb (settings-number bs) 0 k) (sym (told-refused New m ts bs (settings-number bs) 0 (settings-away ts bs (settings-number bs) refl k) k)))
+      (λ e. let t = told-taken New _ m ts (pulses ts []) bs [] (settings-goes (pulses ts []) bs e) refl in rw (eq-eqb (settings-number bs) 0 e, t))
+      (λ k. rw (ne-eqb (settings-number bs) 0 k) (sym (told-refused New m ts bs (settings-number bs) 0 (settings-away (pulses ts []) bs (settings-number bs) refl k) k)))
 
   start-begun : (p : Place) (m : ℕ) (ts bs : List ℕ) → 1 ≤ p .settings .rows → from asked (Start p) m ts bs ≡ goes-on asked (Start p) m ts bs
   unfolding start-told step-of step-says says place due-size number-shown stepped
   start-begun p m ts bs i =
       let s = p .settings in
       by-equal (start-number s bs) 0
-      (λ e. let go = start-goes ts bs s (p .offset) e in
+      (λ e. let go = start-goes (pulses ts []) bs s (p .offset) e in
       let t = told-taken (Start p) _ m ts _ bs [] go refl in
-      let times : step-of (Start p) ts bs .row ≡ times-in (s .width) (body (start-size (s .width)) bs) = ap (λ (o : Stepped). o .row) go in
+      let times : step-of (Start p) (pulses ts []) bs .row .times ≡ times-in (s .width) (body (start-size (s .width)) bs) = ap (λ (o : Stepped). o .row .times) go in
       let all : s .rows - 0 ≡ s .rows = omega arith in
       rw (eq-eqb (start-number s bs) 0 e, t, times, all))
-      (λ k. rw (ne-eqb (start-number s bs) 0 k) (sym (told-refused (Start p) m ts bs (start-number s bs) (p .offset) (start-away ts bs s (p .offset) (start-number s bs) refl k) k)))
+      (λ k. rw (ne-eqb (start-number s bs) 0 k) (sym (told-refused (Start p) m ts bs (start-number s bs) (p .offset) (start-away (pulses ts []) bs s (p .offset) (start-number s bs) refl k) k)))
 
   -- a row without faults, by its survey
   row-surveyed : (p : Place) (after : Wall) (m : ℕ) (v : Surveyed) (us bs : List ℕ) (rest : ℕ → List ℕ) →
@@ -113,15 +113,15 @@ module _ (asked : List ℕ) where
   unfolding rows-told step-of step-says says due-size stepped
   row-begun p m ts bs i =
       let s = p .settings in
-      let us = step-of (Row p) ts bs .row in
+      let us = step-of (Row p) (pulses ts []) bs .row .times in
       let w = s .width in
       let c = first-marked w (marks-in w bs) in
       let more : s .rows - p .row ≡ suc (s .rows - suc (p .row)) = omega (arith, i) in
       by-equal (row-number s ts bs) 0
-      (λ e. let go = row-goes ts bs s (p .offset) (p .row) e in
-      let z = no-number s (p .row) (marks-in w bs) ts in
+      (λ e. let go = row-goes (pulses ts []) bs s (p .offset) (p .row) e in
+      let z = no-number s (p .row) (marks-in w bs) (pulses ts []) in
       let t = told-taken (Row p) _ m ts _ bs _ go (z .0) in
-      let times : us ≡ row-of s ts (call-in w bs) = ap (λ (o : Stepped). o .row) go in
+      let times : us ≡ row-of s ts (call-in w bs) = ap (λ (o : Stepped). o .row .times) go in
       let later : (k : ℕ) → from asked (after-row s (suc (p .row)) (p .offset + row-size w)) k us (drop (row-size w) bs)
       ≡ rows-told s asked (s .rows - suc (p .row)) (suc (p .row)) (p .offset + row-size w) k us (drop (row-size w) bs) =
       λ k. after-told asked s (suc (p .row)) (p .offset + row-size w) k us (drop (row-size w) bs) (omega (arith, i)) in
@@ -132,16 +132,16 @@ module _ (asked : List ℕ) where
       (λ j. let faulty = row-faulty asked p (after-row s (suc (p .row)) (p .offset + row-size w)) m (marks-in w bs) ts c refl j in
       rw (more, eq-eqb (row-number s ts bs) 0 e, lt-ltb c w j, t, faulty) (sym (append-nil _))))
       (λ k. rw (more, ne-eqb (row-number s ts bs) 0 k)
-      (sym (told-refused (Row p) m ts bs (row-number s ts bs) (row-offset s (p .offset) bs) (row-away ts bs s (p .offset) (p .row) (row-number s ts bs) (row-offset s (p .offset) bs) refl k refl) k)))
+      (sym (told-refused (Row p) m ts bs (row-number s ts bs) (row-offset s (p .offset) bs) (row-away (pulses ts []) bs s (p .offset) (p .row) (row-number s ts bs) (row-offset s (p .offset) bs) refl k refl) k)))
 
   end-begun : (p : Place) (m : ℕ) (ts bs : List ℕ) → from asked (End p) m ts bs ≡ goes-on asked (End p) m ts bs
   unfolding rows-told step-of step-says says
   end-begun p m ts bs =
       let s = p .settings in
       by-equal (length bs) 0
-      (λ e. let t = told-taken (End p) _ m ts _ bs _ (end-goes ts bs s (p .offset) (p .row) e) (no-number s (p .row) (no-marks (s .width)) ts .0) in
+      (λ e. let t = told-taken (End p) _ m ts _ bs _ (end-goes (pulses ts []) bs s (p .offset) (p .row) e) (no-number s (p .row) (no-marks (s .width)) (pulses ts []) .0) in
       rw (eq-eqb (length bs) 0 e, t) (sym (append-nil _)))
-      (λ k. rw (ne-eqb (length bs) 0 k) (sym (told-refused (End p) m ts bs 44 (p .offset) (end-away ts bs s (p .offset) (p .row) k) (λ z. let never : ⊥ = omega arith in never))))
+      (λ k. rw (ne-eqb (length bs) 0 k) (sym (told-refused (End p) m ts bs 44 (p .offset) (end-away (pulses ts []) bs s (p .offset) (p .row) k) (λ z. let never : ⊥ = omega arith in never))))
 
   -- each step of a wall that stands tells its part of the whole
   pub one-step : (x : Wall) (m : ℕ) (ts bs : List ℕ) → Stands x → from asked x m ts bs ≡ goes-on asked x m ts bs

@@ -13,8 +13,8 @@ narrow : (s : tie.Start) → length (s .args .before .now) ≤ 256
 narrow s = omega (arith, limits (s .args .settings) (s .pre .0 .pass) .width, s .pre .0 .before-long)
 
 -- both fit in what is lent
-drifts-fit : (c : tie.After-drift-space) → length (c .before .before .before .before .before .args .before .now) ≤ length (c .drift-space .result)
-drifts-fit c = omega (arith, narrow (c .before .before .before .before .before), c .drift-space .ensures)
+drifts-fit : (c : tie.After-drift-space) → length (c .before .before .before .before .before .before .args .before .now) ≤ length (c .drift-space .result)
+drifts-fit c = omega (arith, narrow (c .before .before .before .before .before .before), c .drift-space .ensures)
 
 links-fit : (s : tie.Start) → 3 * length (s .args .before .now) + 2 ≤ length (s .args .links .now)
 links-fit s = omega (arith, narrow s, s .pre .1)
@@ -35,15 +35,15 @@ add-plan-in : tie.Need-add-plan-in
 add-plan-in c = search needs
 
 slice-relend-prefix-plan-in : tie.Need-slice-relend-prefix-plan-in
-slice-relend-prefix-plan-in c = links-fit (c .before .before .before .before .before .before)
+slice-relend-prefix-plan-in c = links-fit (c .before .before .before .before .before .before .before)
 
 slice-aggregate-plan-in-2 : tie.Need-slice-aggregate-plan-in-2
-slice-aggregate-plan-in-2 c = let s = c .before .before .before .before .before .before .before in sym (length-take-le _ (s .args .links .now) (links-fit s))
+slice-aggregate-plan-in-2 c = let s = c .before .before .before .before .before .before .before .before in sym (length-take-le _ (s .args .links .now) (links-fit s))
 
 plan-in-requires : tie.Need-plan-in-requires
 plan-in-requires c κs =
-    let d = c .before .before .before in
-    let s = d .before .before .before .before .before in
+    let d = c .before .before .before .before in
+    let s = d .before .before .before .before .before .before in
     let w = s .pre .0 .before-long in (
       s .pre .0,
       (
@@ -57,6 +57,9 @@ same-length c = search needs
 
 same-length-2 : tie.Need-same-length-2
 same-length-2 c = search needs
+
+same-length-3 : tie.Need-same-length-3
+same-length-3 c = search needs
 
 returns : tie.Need-returns
 returns c = search needs
@@ -75,4 +78,5 @@ plan-spec =
     plan-in-requires
     same-length
     same-length-2
+    same-length-3
     returns)

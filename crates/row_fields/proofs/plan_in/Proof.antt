@@ -4,9 +4,9 @@ use Prim.Native.Nat.{_+_, _*_, _/_, _≤_}
 use lib.ListN.{length}
 use native.Mathlib.Omega.{arith}
 use Rattle.settings.proofs.Laws.Settings.{limits}
-use Rattle.admission.specs.Call.{Call, call}
+use Rattle.admission.specs.Call.{call}
 use Rattle.columns.specs.Marks.{mark-bytes}
-use Rattle.row.specs.Row.{number-of, planned, written}
+use Rattle.row.specs.Row.{Pulses, pulses, number-of}
 use Rattle.contents.specs.Contents.{call-in}
 use Rattle.row_fields.specs.Worked.{Worked-out}
 use Rattle.contents.proofs.Laws.Contents.{body-length}
@@ -17,7 +17,11 @@ use Rattle.row_fields.proofs.plan_in.Tie as tie
 
 -- the start of the function, from the number of the tiles' field
 abbrev start : tie.After-refusal → tie.Start
-start c = c .before .before .before .before .before .before .before
+start c = c .before .before .before .before .before .before .before .before
+
+-- the rows that are lent
+abbrev held : tie.Start → Pulses
+held s = pulses (s .args .times .now) (s .args .letters .now)
 
 narrow : (s : tie.Start) → (6 ≤ length (s .args .before .now)) × (length (s .args .before .now) ≤ 256)
 narrow s =
@@ -28,7 +32,7 @@ room : (s : tie.Start) → 3 + (length (s .args .before .now) + 7) / 8 ≤ lengt
 unfolding mark-bytes
 room s =
     let a = s .args in
-    rw (s .pre .0 .before-long) (after-marks (a .settings) (a .part .now) (a .before .now) (a .times .now) (s .pre .0))
+    rw (s .pre .0 .before-long) (after-marks (a .settings) (a .part .now) (a .before .now) (held s) (s .pre .0))
 
 add-marks : tie.Need-add-marks
 add-marks c = search needs
@@ -43,10 +47,10 @@ add-rest : tie.Need-add-rest
 add-rest c = search needs
 
 sub-rest : tie.Need-sub-rest
-sub-rest c = room (c .before .before .before .before .before)
+sub-rest c = room (c .before .before .before .before .before .before)
 
 part-rest-start : tie.Need-part-rest-start
-part-rest-start c = let h = room (c .before .before .before .before .before) in search needs
+part-rest-start c = let h = room (c .before .before .before .before .before .before) in search needs
 
 part-rest-end : tie.Need-part-rest-end
 part-rest-end c = search needs
@@ -58,7 +62,7 @@ returns : tie.Need-returns
 returns c =
     let s = start (c .before) in
     let a = s .args in
-    tiles-away (a .settings) (a .part .now) (a .before .now) (a .times .now) (s .pre .0) (c .before .refusal .result) (c .before .refusal .ensures ∙ tiles-number (length (a .before .now)) (a .settings .width) (s .pre .0 .before-long) (a .part .now)) (c .if1 .taken)
+    tiles-away (a .settings) (a .part .now) (a .before .now) (held s) (s .pre .0) (c .before .refusal .result) (c .before .refusal .ensures ∙ tiles-number (length (a .before .now)) (a .settings .width) (s .pre .0 .before-long) (a .part .now)) (c .if1 .taken)
 
 body-requires : tie.Need-body-requires
 body-requires c κs = search needs
@@ -95,45 +99,47 @@ same-length-2 c = search needs
 same-length-3 : tie.Need-same-length-3
 same-length-3 c = search needs
 
+same-length-4 : tie.Need-same-length-4
+same-length-4 c = search needs
+
 -- the row operation was given the call that the fields describe
 abbrev tiles-there : tie.After-plan → tie.Else1
-tiles-there p = p .before .before .before .before .before .before .before .before .before .before .before .before .before
+tiles-there p = p .before .before .before .before .before .before .before .before .before .before .before .before .before .before
 
 same-call : (p : tie.After-plan) →
     let s = start (tiles-there p .before) in
-    let b2 = p .before .before .before .before in
-    call (b2 .body2 .result .now) (b2 .before .before .before .before .before .tiles .last .1 .1 .0) (b2 .before .before .before .before .before .tiles .last .1 .1 .1 .0) (length (s .args .times .now))
+    let b2 = p .before .before .before .before .before in
+    call (b2 .body2 .result .now) (b2 .before .before .before .before .before .tiles .last .1 .1 .0) (b2 .before .before .before .before .before .tiles .last .1 .1 .1 .0) (length (s .args .times .now)) (length (s .args .letters .now))
     ≡ call-in (s .args .settings .width) (s .args .part .now)
 same-call p =
     let e = tiles-there p in
     let s = start (e .before) in
-    let b2 = p .before .before .before .before in
+    let b2 = p .before .before .before .before .before in
     let t = b2 .before .before .before .before .before in
     let b = t .before .before .before in
     let pl = s .pre .0 in
-    call-made (length (s .args .before .now)) (s .args .settings .width) (pl .before-long) (s .args .part .now) (length (s .args .times .now)) (pl .times-long)
+    call-made (length (s .args .before .now)) (s .args .settings .width) (pl .before-long) (s .args .part .now) (length (s .args .times .now)) (length (s .args .letters .now)) (pl .times-long) (pl .letters-long)
     (b2 .body2 .ensures) (b .body .ensures) (t .tiles .ensures .0) (t .tiles .ensures .1)
 
 done : (p : tie.After-plan) →
     let s = start (tiles-there p .before) in
-    Worked-out (s .args .settings) (s .args .part .now) (s .args .before .now) (s .args .times .now) (number-of (p .plan .result)) (p .plan .last .1 .1 .1 .1 .1 .0)
+    Worked-out (s .args .settings) (s .args .part .now) (s .args .before .now) (held s) (number-of (p .plan .result))
+    (pulses (p .plan .last .1 .1 .1 .1 .1 .0) (p .plan .last .1 .1 .1 .1 .1 .1 .0))
 done p =
     let e = tiles-there p in
     let s = start (e .before) in
     let a = s .args in
     let there = sym (tiles-number (length (a .before .now)) (a .settings .width) (s .pre .0 .before-long) (a .part .now)) ∙ sym (e .before .refusal .ensures) ∙ e .if1 .left in
-    worked (a .settings) (a .part .now) (a .before .now) (a .times .now) (s .pre .0) there (p .plan .result) _
-    (p .plan .ensures .0 ∙ ap (planned (a .settings) (a .before .now)) (same-call p))
-    (p .plan .ensures .1 ∙ ap (λ (x : Call). written (a .settings) (a .before .now) x (a .times .now)) (same-call p))
+    worked (a .settings) (a .part .now) (a .before .now) (held s) (s .pre .0) there (p .plan .result) _ _
+    (rw (same-call p) at (p .plan .ensures .0))
+    (rw (same-call p) at (p .plan .ensures .1 .0))
+    (rw (same-call p) at (p .plan .ensures .1 .1))
 
 returns-2 : tie.Need-returns-2
 returns-2 c =
-    let p = c .before .before .before .before in
+    let p = c .before .before .before .before .before .before in
     let z : number-of (p .plan .result) ≡ 0 = unfold number-of in ap number-of (c .enum-told .given .1) in
     rw z at (done p)
-
-same-length-4 : tie.Need-same-length-4
-same-length-4 c = search needs
 
 same-length-5 : tie.Need-same-length-5
 same-length-5 c = search needs
@@ -141,10 +147,16 @@ same-length-5 c = search needs
 same-length-6 : tie.Need-same-length-6
 same-length-6 c = search needs
 
+same-length-7 : tie.Need-same-length-7
+same-length-7 c = search needs
+
+same-length-8 : tie.Need-same-length-8
+same-length-8 c = search needs
+
 returns-3 : tie.Need-returns-3
 returns-3 c =
     let a = c .before .answer in
-    let p = c .before .before .before .before .before in
+    let p = c .before .before .before .before .before .before .before in
     let z : number-of (p .plan .result) ≡ a .given .0 .0 = unfold number-of in ap number-of (a .given .1) in
     rw z at (done p)
 
@@ -170,8 +182,10 @@ plan-in-spec =
     same-length
     same-length-2
     same-length-3
-    returns-2
     same-length-4
+    returns-2
     same-length-5
     same-length-6
+    same-length-7
+    same-length-8
     returns-3)

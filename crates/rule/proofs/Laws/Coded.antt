@@ -1,15 +1,20 @@
--- Stamps as numbers, 2^64 - 1 for silence: their order is that of the numbers, and P by cases on the numbers. Assumes nothing.
+-- Stamps as numbers, 2^64 - 1 for silence: their order is that of the numbers, and P and the letter by cases on the numbers. Assumes nothing.
 use mathlib.Core.Path.{_≡_, refl}
+use mathlib.Core.Bool.{cond}
 use mathlib.Core.List.{[], _∷_}
 use mathlib.Core.Logic.{_⊎_, inl, inr}
-use Prim.Native.Nat.{ℕ, _+_, _-_, _*_, _≤_, zero-le, min, max}
+use Prim.Native.Nat.{ℕ, _+_, _-_, _*_, _≤_, _<_, zero-le, min, max}
+use lib.Dec.{ltb}
 use native.Mathlib.Decide.{ℕ-discrete}
 use native.Mathlib.Omega.{arith}
 use borrow.Author.Tests.{eq-eqb, ne-eqb}
 use Rattle.rule.specs.Stamp.{Stamp, heard, silent, _≼_, in-order, last, silence, stamp-of, code-of, earlier, later, earliest, latest}
 use Rattle.rule.specs.Closed.{heard-P, closed-P, Forwardable}
+use Rattle.rule.specs.Letter.{heard-letter, letter}
+use Rattle.rule.specs.declared.letter.Letter.the-variants.{Kept, Early, Late}
 use Rattle.settings.specs.Settings.{step-of}
 use Rattle.settings.specs.declared.Settings.{Settings}
+use Rattle.rule.proofs.Laws.Letter.{letter-unheard}
 use Rattle.rule.proofs.Laws.Stamp.{By, heard-by, unheard, earlier-by, later-by}
 use Rattle.settings.proofs.Laws.Settings.{Limits, step-small}
 use Rattle.rule.proofs.Laws.Forward.{Enough, with-own, without-own, P-most}
@@ -43,6 +48,19 @@ module _ (h j own least most : ℕ) where
       closed-P h j (stamp-of own) (stamp-of least) (stamp-of most) ≡ heard-P h j own least most
   unfolding closed-P
   coded-heard n k i = rw (stamp-heard own n, stamp-heard least k, stamp-heard most i)
+
+  pub letter-own-silent : own ≡ silence → letter h j (stamp-of own) (stamp-of least) (stamp-of most) ≡ Late
+  unfolding letter
+  letter-own-silent e = rw (stamp-silent own e)
+
+  pub letter-neighbour-silent : 0 < h → (own ≡ silence → ⊥) → (least ≡ silence → ⊥) → most ≡ silence →
+      letter h j (stamp-of own) (stamp-of least) (stamp-of most) ≡ cond (ltb own (least - 3 * h)) Early Kept
+  letter-neighbour-silent pos-h n k e = rw (stamp-heard own n, stamp-heard least k, stamp-silent most e) (letter-unheard pos-h j own least)
+
+  pub letter-all-heard : (own ≡ silence → ⊥) → (least ≡ silence → ⊥) → (most ≡ silence → ⊥) →
+      letter h j (stamp-of own) (stamp-of least) (stamp-of most) ≡ heard-letter h j own least most
+  unfolding letter
+  letter-all-heard n k i = rw (stamp-heard own n, stamp-heard least k, stamp-heard most i)
 
 -- a number up to hi below silence is a stamp heard by hi
 stamp-by : {hi : ℕ} (v : ℕ) → ((v ≡ silence → ⊥) → v ≤ hi) → By hi (stamp-of v)

@@ -2,12 +2,11 @@
 use mathlib.Core.Path.{_≡_, sym, _∙_, ap}
 use mathlib.Core.List.{List}
 use Prim.Native.Nat.{ℕ}
-use lib.ListN.{length}
 use Rattle.settings.specs.declared.Settings.{Settings}
-use Rattle.admission.specs.Call.{Call, call}
+use Rattle.admission.specs.Call.{Call}
 use Rattle.admission.specs.Refusal.{row-refusal}
 use Rattle.row.specs.Row.{number-of}
-use Rattle.runs.specs.Program.{Calls, done, refused, accepted}
+use Rattle.runs.specs.Program.{call-with, Calls, done, refused, accepted}
 use Rattle.runs.proofs.Laws.Run.{Run, no-run, one-more}
 use Rattle.row.proofs.Promises.{planned-number, written-accepted}
 
@@ -15,6 +14,6 @@ pub run-of-calls : {s : Settings} {ts : List ℕ} {xs : List Call} {rs : List (L
 run-of-calls {s} {ts} done = no-run s ts
 run-of-calls (refused ms ds ls held answer after e n calls) = run-of-calls calls
 run-of-calls {s} {ts} (accepted ms ds ls held answer after e n calls) =
-    let x = call ms ds ls (length held) in
+    let x = call-with ms ds ls held in
     let zero-number : row-refusal s ts x ≡ 0 = sym (planned-number s ts x) ∙ ap number-of (sym (e .answered)) ∙ n in
-    one-more zero-number (sym (e .wrote ∙ written-accepted s ts x held zero-number)) (run-of-calls calls)
+    one-more zero-number (sym (e .wrote ∙ written-accepted s ts x (held .times) zero-number)) (run-of-calls calls)

@@ -1,9 +1,9 @@
 -- `advance` meets its contract. Assumes nothing.
 use mathlib.Core.Path.{_≡_, sym, _∙_}
-use Prim.Native.Nat.{_≤_}
 use native.Mathlib.Omega.{arith}
 use lib.ListN.{length, take}
 use lib.Seq.{length-take-le}
+use Rattle.row.specs.Row.{pulses}
 use Rattle.search.proofs.Laws.Search.{advanced}
 use borrow.Author.Needs.{needs}
 use Rattle.search.proofs.advance.Statement.{statement}
@@ -11,13 +11,16 @@ use Rattle.search.proofs.advance.Tie as tie
 
 -- the start of the function, from where the width is known, and the rows of that width
 abbrev start : tie.After-width → tie.Start
-start w = w .before .before .before .before .before .before .before .before
+start w = w .before .before .before .before .before .before .before .before .before
 
 row-long : (w : tie.After-width) → length (take (w .width .result) (start w .args .row .now)) ≡ w .width .result
 row-long w = length-take-le _ _ (omega (arith, w .width .ensures .1, start w .pre .1))
 
 next-long : (w : tie.After-width) → length (take (w .width .result) (start w .args .next .now)) ≡ w .width .result
 next-long w = length-take-le _ _ (omega (arith, w .width .ensures .1, start w .pre .2))
+
+letters-long : (w : tie.After-width) → length (take (w .width .result) (start w .args .letters .now)) ≡ w .width .result
+letters-long w = length-take-le _ _ (omega (arith, w .width .ensures .1, start w .pre .3))
 
 part-end-requires : tie.Need-part-end-requires
 part-end-requires c κs = search needs
@@ -46,16 +49,22 @@ slice-relend-prefix-step-2 c = search needs
 slice-aggregate-step-2 : tie.Need-slice-aggregate-step-2
 slice-aggregate-step-2 c = sym (next-long (c .before .before .before))
 
+slice-relend-prefix-step-3 : tie.Need-slice-relend-prefix-step-3
+slice-relend-prefix-step-3 c = search needs
+
+slice-aggregate-step-3 : tie.Need-slice-aggregate-step-3
+slice-aggregate-step-3 c = sym (letters-long (c .before .before .before .before))
+
 step-requires : tie.Need-step-requires
 step-requires c κs =
-    let w = c .before .before .before .before in
+    let w = c .before .before .before .before .before in
     let s = start w in
     let wide = w .width .ensures in
-    ((s .pre .0 .stands, s .pre .3), (row-long w ∙ wide .0, next-long w ∙ wide .0, omega (arith, row-long w, wide .1)))
+    ((s .pre .0 .stands, s .pre .4), (row-long w ∙ wide .0, next-long w ∙ wide .0, letters-long w ∙ wide .0, omega (arith, row-long w, wide .1)))
 
 stepped-requires : tie.Need-stepped-requires
 stepped-requires c κs =
-    let w = c .before .before .before .before .before .before .before .before .before .before .before in
+    let w = c .before .before .before .before .before .before .before .before .before .before .before .before .before .before in
     w .before .part-end .ensures
 
 same-length : tie.Need-same-length
@@ -67,14 +76,17 @@ same-length-2 c = search needs
 same-length-3 : tie.Need-same-length-3
 same-length-3 c = search needs
 
+same-length-4 : tie.Need-same-length-4
+same-length-4 c = search needs
+
 returns : tie.Need-returns
 returns c =
-    let f = c .before .before .before .before .before .before .before in
-    let w = f .before .before .before .before .before in
+    let f = c .before .before .before .before .before .before .before .before .before in
+    let w = f .before .before .before .before .before .before in
     let s = start w in
     let a = s .args in
-    advanced _ (a .state) (a .largest) (a .input .now) (a .row .now) (a .output .now) (s .pre .0 .within) _ _
-    (w .before .part-end .ensures) (w .width .ensures .0) (f .step .result) (c .stepped .result) _ _ (f .step .kept .1 .1 .1 .1 .0 ∙ row-long w) (c .stepped .ensures) (f .step .ensures)
+    advanced _ (a .state) (a .largest) (a .input .now) (pulses (a .row .now) (a .letters .now)) (a .output .now) (s .pre .0 .within) _ _
+    (w .before .part-end .ensures) (w .width .ensures .0) (f .step .result) (c .stepped .result) _ _ (f .step .kept .1 .1 .1 .1 .0 ∙ row-long w) (f .step .kept .1 .1 .1 .1 .1 .1 .0 ∙ letters-long w) (c .stepped .ensures) (f .step .ensures)
 
 pub advance-spec : {M : Type 1} → statement M
 advance-spec =
@@ -89,9 +101,12 @@ advance-spec =
     slice-aggregate-step
     slice-relend-prefix-step-2
     slice-aggregate-step-2
+    slice-relend-prefix-step-3
+    slice-aggregate-step-3
     step-requires
     stepped-requires
     same-length
     same-length-2
     same-length-3
+    same-length-4
     returns)

@@ -10,6 +10,7 @@ use Rattle.columns.specs.Marks.{mark-bytes}
 use Rattle.columns.proofs.Laws.Wrote.{wrote-as}
 use Rattle.show.specs.Text.{texts-of}
 use Rattle.steps.specs.Shown.{row-shown, no-marks}
+use Rattle.row.specs.Row.{pulses}
 use Rattle.stages.proofs.Laws.{fit-of}
 use Rattle.show.proofs.Laws.{zeros}
 use borrow.Author.Needs.{needs}
@@ -26,16 +27,16 @@ add-bytes : tie.Need-add-bytes
 add-bytes c = search needs
 
 array-share-prefix-marks : tie.Need-array-share-prefix-marks
-array-share-prefix-marks c = few (c .before .before .before)
+array-share-prefix-marks c = few (c .before .before .before .before)
 
 slice-aggregate-lines : tie.Need-slice-aggregate-lines
-slice-aggregate-lines c = sym (length-take-le _ (replicate {A = ℕ} 32 0) (few (c .before .before .before .before)))
+slice-aggregate-lines c = sym (length-take-le _ (replicate {A = ℕ} 32 0) (few (c .before .before .before .before .before)))
 
 lines-requires : tie.Need-lines-requires
 unfolding mark-bytes
 lines-requires c κs =
-    let s = c .before .before .before .before .before in
-    (s .pre .0, s .pre .1, length-take-le _ (replicate {A = ℕ} 32 0) (few s), s .pre .2)
+    let s = c .before .before .before .before .before .before in
+    (s .pre .0, s .pre .1, s .pre .2, length-take-le _ (replicate {A = ℕ} 32 0) (few s), s .pre .3)
 
 same-length : tie.Need-same-length
 same-length c = search needs
@@ -44,12 +45,12 @@ returns : tie.Need-returns
 unfolding no-marks mark-bytes
 returns c =
     let l = c .before .before in
-    let s = l .before .before .before .before .before .before in
+    let s = l .before .before .before .before .before .before .before in
     let a = s .args in
     let f = fit-of (a .place) (length (a .row .now)) (s .pre .1) in
     let none : take ((length (a .row .now) + 7) / 8) (replicate {A = ℕ} 32 0) ≡ no-marks (a .place .settings .width) =
     zeros ((length (a .row .now) + 7) / 8) 32 (few s) ∙ ap no-marks (f .long) in
-    wrote-as (l .lines .ensures) (ap (λ (ms : List ℕ). texts-of (row-shown (a .place .settings) (a .place .row) ms (a .row .now))) none)
+    wrote-as (l .lines .ensures) (ap (λ (ms : List ℕ). texts-of (row-shown (a .place .settings) (a .place .row) ms (pulses (a .row .now) (a .letters .now)))) none)
 
 pub last-lines-spec : {M : Type 1} → statement M
 last-lines-spec =

@@ -9,6 +9,7 @@ use borrow.Author.Tests.{ltb-true, ltb-false}
 use lib.Dec.{eqb, ltb}
 use lib.ListN.{length, take, drop, length-take, length-drop}
 use lib.Seq.{take-append-le, drop-append-le}
+use Rattle.row.specs.Row.{Pulses, cut}
 use Rattle.steps.specs.Number.{settings-number, start-number, row-number}
 use Rattle.stages.specs.Fit.{place, passes, width-of}
 use Rattle.steps.specs.Step.{stepped, away, settings-step, start-step, after-row, row-step, end-step, step-of}
@@ -19,57 +20,57 @@ use Rattle.window.specs.Window.{In-buffer, bytes-in, lacking}
 use Rattle.window.specs.declared.Window.{Window}
 
 -- a step keeps the wall's width, or the wall is over
-abbrev Kept : Wall → (row part : List ℕ) → Type 0
+abbrev Kept : Wall → (row : Pulses) → (part : List ℕ) → Type 0
 Kept x ts bs = (width-of (step-of x ts bs .next) ≡ width-of x) ⊎ (step-of x ts bs .next ≡ Over)
 
-kept-start : (p : Place) (ts bs : List ℕ) (b : Bool) → eqb (start-number (p .settings) bs) 0 ≡ b → Kept (Start p) ts bs
+kept-start : (p : Place) (ts : Pulses) (bs : List ℕ) (b : Bool) → eqb (start-number (p .settings) bs) 0 ≡ b → Kept (Start p) ts bs
 unfolding step-of start-step stepped away place width-of passes
 kept-start p ts bs true e = rw e (inl refl)
 kept-start p ts bs false e = rw e (inr refl)
 
-kept-row : (p : Place) (ts bs : List ℕ) (b m : Bool) → eqb (row-number (p .settings) ts bs) 0 ≡ b → ltb (suc (p .row)) (p .settings .rows) ≡ m →
+kept-row : (p : Place) (ts : Pulses) (bs : List ℕ) (b m : Bool) → eqb (row-number (p .settings) (ts .times) bs) 0 ≡ b → ltb (suc (p .row)) (p .settings .rows) ≡ m →
     Kept (Row p) ts bs
 unfolding step-of row-step after-row stepped away place width-of passes
 kept-row p ts bs true true e f = rw (e, f) (inl refl)
 kept-row p ts bs true false e f = rw (e, f) (inl refl)
 kept-row p ts bs false m e f = rw e (inr refl)
 
-kept-end : (p : Place) (ts bs : List ℕ) (b : Bool) → eqb (length bs) 0 ≡ b → Kept (End p) ts bs
+kept-end : (p : Place) (ts : Pulses) (bs : List ℕ) (b : Bool) → eqb (length bs) 0 ≡ b → Kept (End p) ts bs
 unfolding step-of end-step stepped away
 kept-end p ts bs true e = rw e (inr refl)
 kept-end p ts bs false e = rw e (inr refl)
 
-kept-over : (ts bs : List ℕ) → Kept Over ts bs
+kept-over : (ts : Pulses) (bs : List ℕ) → Kept Over ts bs
 unfolding step-of stepped
 kept-over ts bs = inr refl
 
 -- What is made of a wall and its row, and of the row only where one was written, is the same of the row in a buffer as of the row that the
 -- step left.
-module _ (P : Wall → (row : List ℕ) → List ℕ) (start : (p : Place) (us vs : List ℕ) → P (Start p) us ≡ P (Start p) vs)
-    (over : (us vs : List ℕ) → P Over us ≡ P Over vs) where
-  unless-over : (y : Wall) (us vs : List ℕ) → ((y ≡ Over → ⊥) → us ≡ vs) → P y us ≡ P y vs
+module _ (P : Wall → (row : Pulses) → List ℕ) (start : (p : Place) (us vs : Pulses) → P (Start p) us ≡ P (Start p) vs)
+    (over : (us vs : Pulses) → P Over us ≡ P Over vs) where
+  unless-over : (y : Wall) (us vs : Pulses) → ((y ≡ Over → ⊥) → us ≡ vs) → P y us ≡ P y vs
   unless-over New us vs h = ap (P New) (h (λ e. let z : _≡_ {A = ℕ} 0 1 = cc in omega (arith, z)))
   unless-over (Start p) us vs h = start p us vs
   unless-over (Row p) us vs h = ap (P (Row p)) (h (λ e. let z : _≡_ {A = ℕ} 0 1 = cc in omega (arith, z)))
   unless-over (End p) us vs h = ap (P (End p)) (h (λ e. let z : _≡_ {A = ℕ} 0 1 = cc in omega (arith, z)))
   unless-over Over us vs h = over us vs
 
-  by-kept : (x : Wall) (ts bs us row : List ℕ) → Kept x ts bs → ((step-of x ts bs .next ≡ Over → ⊥) → take (width-of x) us ≡ row) →
-      P (step-of x ts bs .next) (take (width-of (step-of x ts bs .next)) us) ≡ P (step-of x ts bs .next) row
-  by-kept x ts bs us row (inl e) h = rw e (unless-over (step-of x ts bs .next) (take (width-of x) us) row h)
-  by-kept x ts bs us row (inr e) h = rw e (over (take (width-of Over) us) row)
+  by-kept : (x : Wall) (ts : Pulses) (bs : List ℕ) (us row : Pulses) → Kept x ts bs → ((step-of x ts bs .next ≡ Over → ⊥) → cut (width-of x) us ≡ row) →
+      P (step-of x ts bs .next) (cut (width-of (step-of x ts bs .next)) us) ≡ P (step-of x ts bs .next) row
+  by-kept x ts bs us row (inl e) h = rw e (unless-over (step-of x ts bs .next) (cut (width-of x) us) row h)
+  by-kept x ts bs us row (inr e) h = rw e (over (cut (width-of Over) us) row)
 
-  new-any : (ts bs us vs : List ℕ) (b : Bool) → eqb (settings-number bs) 0 ≡ b → P (step-of New ts bs .next) us ≡ P (step-of New ts bs .next) vs
+  new-any : (ts : Pulses) (bs : List ℕ) (us vs : Pulses) (b : Bool) → eqb (settings-number bs) 0 ≡ b → P (step-of New ts bs .next) us ≡ P (step-of New ts bs .next) vs
   unfolding step-of settings-step stepped away
   new-any ts bs us vs true e = rw e (start _ us vs)
   new-any ts bs us vs false e = rw e (over us vs)
 
-  pub row-kept : (x : Wall) (ts bs us row : List ℕ) → ((step-of x ts bs .next ≡ Over → ⊥) → take (width-of x) us ≡ row) →
-      P (step-of x ts bs .next) (take (width-of (step-of x ts bs .next)) us) ≡ P (step-of x ts bs .next) row
-  row-kept New ts bs us row h = new-any ts bs (take (width-of (step-of New ts bs .next)) us) row (eqb (settings-number bs) 0) refl
+  pub row-kept : (x : Wall) (ts : Pulses) (bs : List ℕ) (us row : Pulses) → ((step-of x ts bs .next ≡ Over → ⊥) → cut (width-of x) us ≡ row) →
+      P (step-of x ts bs .next) (cut (width-of (step-of x ts bs .next)) us) ≡ P (step-of x ts bs .next) row
+  row-kept New ts bs us row h = new-any ts bs (cut (width-of (step-of New ts bs .next)) us) row (eqb (settings-number bs) 0) refl
   row-kept (Start p) ts bs us row h = by-kept (Start p) ts bs us row (kept-start p ts bs (eqb (start-number (p .settings) bs) 0) refl) h
   row-kept (Row p) ts bs us row h =
-      by-kept (Row p) ts bs us row (kept-row p ts bs (eqb (row-number (p .settings) ts bs) 0) (ltb (suc (p .row)) (p .settings .rows)) refl refl) h
+      by-kept (Row p) ts bs us row (kept-row p ts bs (eqb (row-number (p .settings) (ts .times) bs) 0) (ltb (suc (p .row)) (p .settings .rows)) refl refl) h
   row-kept (End p) ts bs us row h = by-kept (End p) ts bs us row (kept-end p ts bs (eqb (length bs) 0) refl) h
   row-kept Over ts bs us row h = by-kept Over ts bs us row (kept-over ts bs) h
 

@@ -5,6 +5,7 @@ use mathlib.Core.List.{List, [], _++_, append-nil, append-assoc}
 use Prim.Native.Nat.{ℕ, _-_, _<_}
 use native.Mathlib.Omega.{arith}
 use lib.ListN.{length, take, drop, take-append-drop}
+use Rattle.row.specs.Row.{Pulses}
 use Rattle.stages.specs.Fit.{due-of}
 use Rattle.stages.specs.declared.Wall.{Wall}
 use Rattle.stages.specs.declared.Wall.the-variants.{Over}
@@ -22,9 +23,9 @@ use Rattle.stream.proofs.Laws.State.{starts-between, ready-between, res
 use Rattle.stream.proofs.Laws.Held.{enough-held}
 
 module _ {K : Type 0} (step : Kind K) (first : K) where
-  pub begun : (s : State) (input times output : List ℕ) → Starts s → Standing step first s first input times output
+  pub begun : (s : State) (input : List ℕ) (lent : Pulses) (output : List ℕ) → Starts s → Standing step first s first input lent output
   unfolding bytes-in
-  begun s input times output b =
+  begun s input lent output b =
       let none : bytes-in (s .window) input ≡ [] = rw (b .start, b .end) refl in
       let clear : take (s .text) output ≡ [] = rw (b .text) refl in
       record {
@@ -33,8 +34,8 @@ module _ {K : Type 0} (step : Kind K) (first : K) where
       }
 
   -- text is handed over, or kept
-  handed-on : {ended : Bool} {x : Wall} {k : K} {times held : List ℕ} (output : List ℕ) (t u : ℕ) (b : Bool) → u ≡ cond b 0 t →
-      Ran step first ended x k times held (take t output) → Ran step first ended x k times held (take u output)
+  handed-on : {ended : Bool} {x : Wall} {k : K} {lent : Pulses} {held : List ℕ} (output : List ℕ) (t u : ℕ) (b : Bool) → u ≡ cond b 0 t →
+      Ran step first ended x k lent held (take t output) → Ran step first ended x k lent held (take u output)
   handed-on output t u true e r =
       record { delivered = r .delivered; handed = r .handed ++ take t output; turns = rw (e, append-nil (r .handed ++ take t output)) (r .turns) }
   handed-on output t u false e r = rw e r
@@ -44,8 +45,8 @@ module _ {K : Type 0} (step : Kind K) (first : K) where
     more : bytes-in (s .window) input ++ drop (s .window .end - s .window .start) (bytes-in (m .window) after) ≡ bytes-in (m .window) after
     more = rw (← made .filled .first) (take-append-drop (s .window .end - s .window .start) (bytes-in (m .window) after))
 
-    read-on : {x : Wall} {k : K} {times pending : List ℕ} (a b : Bool) → s .window .ended ≡ a → m .window .ended ≡ b →
-        Ran step first a x k times (bytes-in (s .window) input) pending → Ran step first b x k times (bytes-in (m .window) after) pending
+    read-on : {x : Wall} {k : K} {lent : Pulses} {pending : List ℕ} (a b : Bool) → s .window .ended ≡ a → m .window .ended ≡ b →
+        Ran step first a x k lent (bytes-in (s .window) input) pending → Ran step first b x k lent (bytes-in (m .window) after) pending
     read-on true b p q r =
         let idle = made .idle (unfold lacking in rw p) in
         let same : b ≡ true = sym q ∙ ap (λ (w : _). w .ended) (idle .0) ∙ p in
@@ -63,9 +64,9 @@ module _ {K : Type 0} (step : Kind K) (first : K) where
           turns = ends (rw more at (reads (drop (s .window .end - s .window .start) (bytes-in (m .window) after)) (r .turns)));
         }
 
-  pub made-standing : (s m : State) (k : K) (input times output after : List ℕ) → Standing step first s k input times output →
-      Made-ready s input (length output) m after → Standing step first m k after times output
-  made-standing s m k input times output after i made =
+  pub made-standing : (s m : State) (k : K) (input : List ℕ) (lent : Pulses) (output after : List ℕ) → Standing step first s k input lent output →
+      Made-ready s input (length output) m after → Standing step first m k after lent output
+  made-standing s m k input lent output after i made =
       record {
         between = ready-between s input (length output) m after (i .between) made;
         ran =
@@ -75,11 +76,11 @@ module _ {K : Type 0} (step : Kind K) (first : K) where
       }
 
   -- a step: it leads on, and fewer steps are left
-  module _ (ahead : (x : Wall) (k : K) (ts part : List ℕ) → Stands x → (due-of x ≡ 0 → ⊥) → Ahead (step x k ts part .wall) (steps-left x))
-      (s r : State) (k l : K) (input times output times-after output-after : List ℕ) (some : due-of (s .wall) ≡ 0 → ⊥)
-      (went : Advanced step s k input times output r l times-after output-after) (i : Standing step first s k input times output) where
+  module _ (ahead : (x : Wall) (k : K) (ts : Pulses) (part : List ℕ) → Stands x → (due-of x ≡ 0 → ⊥) → Ahead (step x k ts part .wall) (steps-left x))
+      (s r : State) (k l : K) (input : List ℕ) (lent : Pulses) (output : List ℕ) (lent-after : Pulses) (output-after : List ℕ) (some : due-of (s .wall) ≡ 0 → ⊥)
+      (went : Advanced step s k input lent output r l lent-after output-after) (i : Standing step first s k input lent output) where
     abbrev brought : Brought K
-    brought = brings step (s .wall) k times (bytes-in (s .window) input)
+    brought = brings step (s .wall) k lent (bytes-in (s .window) input)
 
     wall-is : r .wall ≡ brought .wall
     unfolding stepped
@@ -91,7 +92,7 @@ module _ {K : Type 0} (step : Kind K) (first : K) where
     pub step-less : steps-left (r .wall) < steps-left (s .wall)
     step-less = onward .less
 
-    pub step-standing : lacking (s .window) (due-of (s .wall)) ≡ false → Standing step first r l input times-after output-after
+    pub step-standing : lacking (s .window) (due-of (s .wall)) ≡ false → Standing step first r l input lent-after output-after
     unfolding stepped
     step-standing enough =
         let w = s .window in
@@ -113,52 +114,52 @@ module _ {K : Type 0} (step : Kind K) (first : K) where
               record {
                 delivered = i .ran .delivered;
                 handed = h;
-                turns = rw (rest, text, flag, wall-is, went .keeps) (steps times-after short (went .row) (i .ran .turns));
+                turns = rw (rest, text, flag, wall-is, went .keeps) (steps lent-after short (went .row) (i .ran .turns));
               };
         }
 
   -- a turn: made ready, and then a step
-  module _ (ahead : (x : Wall) (k : K) (ts part : List ℕ) → Stands x → (due-of x ≡ 0 → ⊥) → Ahead (step x k ts part .wall) (steps-left x))
-      (s m r : State) (k l : K) (input times output after times-after output-after : List ℕ) (some : due-of (s .wall) ≡ 0 → ⊥)
-      (i : Standing step first s k input times output) (made : Made-ready s input (length output) m after)
-      (went : Advanced step m k after times output r l times-after output-after) where
+  module _ (ahead : (x : Wall) (k : K) (ts : Pulses) (part : List ℕ) → Stands x → (due-of x ≡ 0 → ⊥) → Ahead (step x k ts part .wall) (steps-left x))
+      (s m r : State) (k l : K) (input : List ℕ) (lent : Pulses) (output after : List ℕ) (lent-after : Pulses) (output-after : List ℕ) (some : due-of (s .wall) ≡ 0 → ⊥)
+      (i : Standing step first s k input lent output) (made : Made-ready s input (length output) m after)
+      (went : Advanced step m k after lent output r l lent-after output-after) where
     some-made : due-of (m .wall) ≡ 0 → ⊥
     some-made e = some (rw (made .wall) at e)
 
-    pub turn-standing : Standing step first r l after times-after output-after
+    pub turn-standing : Standing step first r l after lent-after output-after
     turn-standing =
-        step-standing ahead m r k l after times output times-after output-after some-made went (made-standing s m k input times output after i made)
+        step-standing ahead m r k l after lent output lent-after output-after some-made went (made-standing s m k input lent output after i made)
         (rw (made .wall) (made .filled .enough))
 
     pub turn-less : steps-left (r .wall) < steps-left (s .wall)
     turn-less =
         rw (made .wall) at
-        (step-less ahead m r k l after times output times-after output-after some-made went (made-standing s m k input times output after i made))
+        (step-less ahead m r k l after lent output lent-after output-after some-made went (made-standing s m k input lent output after i made))
 
-  pub turn-right : ((x : Wall) (k : K) (ts part : List ℕ) → Stands x → (due-of x ≡ 0 → ⊥) → Ahead (step x k ts part .wall) (steps-left x)) →
+  pub turn-right : ((x : Wall) (k : K) (ts : Pulses) (part : List ℕ) → Stands x → (due-of x ≡ 0 → ⊥) → Ahead (step x k ts part .wall) (steps-left x)) →
       Turn-right step first
   unfolding Turn-right
-  turn-right ahead s m r k l input times output after times-after output-after some i made went =
-      turn-standing ahead s m r k l input times output after times-after output-after some i made went
+  turn-right ahead s m r k l input lent output after lent-after output-after some i made went =
+      turn-standing ahead s m r k l input lent output after lent-after output-after some i made went
 
   -- a turn that failed ends the run where it began
-  pub stopped : (s : State) (k : K) (input times output : List ℕ) (e : Ended) → (e ≡ Done → ⊥) → Standing step first s k input times output →
-      Ends step first (record { ended = e; state = s }) k times output
-  stopped s k input times output e never i = record { held = bytes-in (s .window) input; ran = i .ran; done = λ d. absurd (never d) }
+  pub stopped : (s : State) (k : K) (input : List ℕ) (lent : Pulses) (output : List ℕ) (e : Ended) → (e ≡ Done → ⊥) → Standing step first s k input lent output →
+      Ends step first (record { ended = e; state = s }) k lent output
+  stopped s k input lent output e never i = record { held = bytes-in (s .window) input; ran = i .ran; done = λ d. absurd (never d) }
 
   -- the last text
-  finished-at : (s t : State) (k : K) (input times output : List ℕ) (e : Ended) → s .wall ≡ Over → Standing step first s k input times output →
-      finished s e t → Ends step first (record { ended = e; state = t }) k times output
+  finished-at : (s t : State) (k : K) (input : List ℕ) (lent : Pulses) (output : List ℕ) (e : Ended) → s .wall ≡ Over → Standing step first s k input lent output →
+      finished s e t → Ends step first (record { ended = e; state = t }) k lent output
   unfolding finished
-  finished-at s t k input times output Done over i f =
+  finished-at s t k input lent output Done over i f =
       record {
         held = bytes-in (s .window) input;
         ran = rw f (handed-on output (s .text) 0 true refl (i .ran));
         done = λ _. (ap (λ (u : State). u .wall) f ∙ over, ap (λ (u : State). u .text) f);
       }
-  finished-at s t k input times output ReadFailed over i f = absurd f
-  finished-at s t k input times output WriteFailed over i f = rw f (stopped s k input times output WriteFailed (λ e. let z : _≡_ {A = ℕ} 0 1 = cc in omega (arith, z)) i)
+  finished-at s t k input lent output ReadFailed over i f = absurd f
+  finished-at s t k input lent output WriteFailed over i f = rw f (stopped s k input lent output WriteFailed (λ e. let z : _≡_ {A = ℕ} 0 1 = cc in omega (arith, z)) i)
 
-  pub finishes : (s : State) (r : Outcome) (k : K) (input times output : List ℕ) → s .wall ≡ Over → Standing step first s k input times output →
-      finished s (r .ended) (r .state) → Ends step first r k times output
-  finishes s r k input times output over i f = finished-at s (r .state) k input times output (r .ended) over i f
+  pub finishes : (s : State) (r : Outcome) (k : K) (input : List ℕ) (lent : Pulses) (output : List ℕ) → s .wall ≡ Over → Standing step first s k input lent output →
+      finished s (r .ended) (r .state) → Ends step first r k lent output
+  finishes s r k input lent output over i f = finished-at s (r .state) k input lent output (r .ended) over i f

@@ -11,6 +11,7 @@ use Rattle.reach.specs.declared.survey.Surveyed.{Surveyed}
 use Rattle.reach.specs.declared.survey.Surveyed.the-variants as surveyed
 use Rattle.lines.specs.Line.{refused-line}
 use Rattle.columns.specs.Wrote.{Wrote}
+use Rattle.row.specs.Row.{pulses}
 use Rattle.steps.specs.Shown.{number-shown, offset-shown}
 use Rattle.stages.specs.Fit.{due-of}
 use Rattle.file.specs.Stands.{Stands, steps-left}
@@ -44,15 +45,15 @@ module _ (asked : List ℕ) (p : Place) (after : Wall) (m : ℕ) (ms ts : List �
 
 -- a step, by its number
 module _ (asked : List ℕ) (x : Wall) (m : ℕ) (ts bs : List ℕ) where
-  pub told-away : (number-shown (step-of x ts bs .shows) ≡ 0 → ⊥) →
+  pub told-away : (number-shown (step-of x (pulses ts []) bs .shows) ≡ 0 → ⊥) →
       telling asked x m ts bs
-      ≡ says (step-of x ts bs .next) m (refused-line (number-shown (step-of x ts bs .shows)) (offset-shown (step-of x ts bs .shows)))
+      ≡ says (step-of x (pulses ts []) bs .next) m (refused-line (number-shown (step-of x (pulses ts []) bs .shows)) (offset-shown (step-of x (pulses ts []) bs .shows)))
   unfolding telling
-  told-away k = rw (ne-eqb (number-shown (step-of x ts bs .shows)) 0 k)
+  told-away k = rw (ne-eqb (number-shown (step-of x (pulses ts []) bs .shows)) 0 k)
 
-  pub told-on : number-shown (step-of x ts bs .shows) ≡ 0 → telling asked x m ts bs ≡ step-says asked x (step-of x ts bs .next) m ts bs
+  pub told-on : number-shown (step-of x (pulses ts []) bs .shows) ≡ 0 → telling asked x m ts bs ≡ step-says asked x (step-of x (pulses ts []) bs .next) m ts bs
   unfolding telling
-  told-on e = rw (eq-eqb (number-shown (step-of x ts bs .shows)) 0 e)
+  told-on e = rw (eq-eqb (number-shown (step-of x (pulses ts []) bs .shows)) 0 e)
 
 -- the wall that is left is the step's, or over
 module _ (asked : List ℕ) where
@@ -81,17 +82,17 @@ module _ (asked : List ℕ) where
   step-wall Over after m ts bs = inl refl
 
   pub told-wall : (x : Wall) (m : ℕ) (ts bs : List ℕ) →
-      (telling asked x m ts bs .wall ≡ step-of x ts bs .next) ⊎ (telling asked x m ts bs .wall ≡ Over)
+      (telling asked x m ts bs .wall ≡ step-of x (pulses ts []) bs .next) ⊎ (telling asked x m ts bs .wall ≡ Over)
   told-wall x m ts bs =
-      by-equal (number-shown (step-of x ts bs .shows)) 0
-      (λ e. rw (told-on asked x m ts bs e) (step-wall x (step-of x ts bs .next) m ts bs))
+      by-equal (number-shown (step-of x (pulses ts []) bs .shows)) 0
+      (λ e. rw (told-on asked x m ts bs e) (step-wall x (step-of x (pulses ts []) bs .next) m ts bs))
       (λ k. inl (ap (λ (t : Telling). t .wall) (told-away asked x m ts bs k) ∙ (unfold says in refl)))
 
   -- so it stands, and a step that was due leaves fewer to come
   pub told-ahead : (x : Wall) (m : ℕ) (ts bs : List ℕ) → Stands x → (due-of x ≡ 0 → ⊥) → Ahead (telling asked x m ts bs .wall) (steps-left x)
   unfolding Stands steps-left
   told-ahead x m ts bs i k =
-      let ahead = step-ahead x ts bs i k in
+      let ahead = step-ahead x (pulses ts []) bs i k in
       ⊎-elim
       (λ e. subst (λ (y : Wall). Ahead y (steps-left x)) (sym e) ahead)
       (λ e. subst (λ (y : Wall). Ahead y (steps-left x)) (sym e) (record { stands = tt; less = omega (arith, ahead .less) }))
@@ -100,4 +101,4 @@ module _ (asked : List ℕ) where
   pub told-stands : (x : Wall) (m : ℕ) (ts bs : List ℕ) → Stands x → Stands (telling asked x m ts bs .wall)
   unfolding Stands
   told-stands x m ts bs i =
-      ⊎-elim (λ e. subst Stands (sym e) (step-stands x ts bs i)) (λ e. subst Stands (sym e) tt) (told-wall x m ts bs)
+      ⊎-elim (λ e. subst Stands (sym e) (step-stands x (pulses ts []) bs i)) (λ e. subst Stands (sym e) tt) (told-wall x m ts bs)

@@ -1,7 +1,7 @@
 -- `tell` meets its contract. Assumes nothing.
 use mathlib.Core.Path.{_≡_, sym, _∙_, ap, subst}
 use mathlib.Core.Bool.{true}
-use mathlib.Core.List.{List}
+use mathlib.Core.List.{List, []}
 use Prim.Native.Nat.{ℕ, _+_, _-_, _/_, _≤_}
 use lib.ListN.{length, take, drop, length-drop}
 use lib.Seq.{length-take-le}
@@ -11,6 +11,7 @@ use Rattle.lines.specs.Line.{refused-line}
 use Rattle.columns.proofs.Laws.Wrote.{wrote-none, wrote-as}
 use Rattle.contents.specs.Contents.{marks-in}
 use Rattle.fields.specs.Field.{body}
+use Rattle.row.specs.Row.{pulses}
 use Rattle.steps.specs.Shown.{number-shown, offset-shown}
 use Rattle.stages.specs.Fit.{place-fits, wall-fits}
 use Rattle.steps.specs.Step.{step-of}
@@ -35,19 +36,19 @@ begin c = start (c .before .before .before)
 
 -- what was taken is the step's
 module _ (s : tie.Start) where
-  number : s .args .taken .number ≡ number-shown (step-of (s .args .wall) (s .args .row .now) (s .args .part .now) .shows)
+  number : s .args .taken .number ≡ number-shown (step-of (s .args .wall) (pulses (s .args .row .now) []) (s .args .part .now) .shows)
   unfolding taken-of taken
   number = ap (λ (t : Taken). t .number) (s .pre .1)
 
-  offset : s .args .taken .offset ≡ offset-shown (step-of (s .args .wall) (s .args .row .now) (s .args .part .now) .shows)
+  offset : s .args .taken .offset ≡ offset-shown (step-of (s .args .wall) (pulses (s .args .row .now) []) (s .args .part .now) .shows)
   unfolding taken-of taken
   offset = ap (λ (t : Taken). t .offset) (s .pre .1)
 
-  next : s .args .taken .wall ≡ step-of (s .args .wall) (s .args .row .now) (s .args .part .now) .next
+  next : s .args .taken .wall ≡ step-of (s .args .wall) (pulses (s .args .row .now) []) (s .args .part .now) .next
   unfolding taken-of taken
   next = ap (λ (t : Taken). t .wall) (s .pre .1)
 
-accepted : (c : tie.Else1) → let a = start (c .before) .args in number-shown (step-of (a .wall) (a .row .now) (a .part .now) .shows) ≡ 0
+accepted : (c : tie.Else1) → let a = start (c .before) .args in number-shown (step-of (a .wall) (pulses (a .row .now) []) (a .part .now) .shows) ≡ 0
 accepted c = sym (number (start (c .before))) ∙ c .if1 .left
 
 -- what is told of a step that is taken, by its wall
@@ -74,7 +75,7 @@ there : (c : tie.After-wall) → let a = begin c .args in 3 + (length (a .row .n
 unfolding mark-bytes
 there c =
     let a = begin c .args in
-    rw (fit-of _ _ (fits c) .long) (row-there (a .row .now) (a .part .now) (accepted (c .before .before)) (c .wall .given .1))
+    rw (fit-of _ _ (fits c) .long) (row-there (a .wall) (pulses (a .row .now) []) (a .part .now) (accepted (c .before .before)) (c .wall .given .1))
 
 marks : (c : tie.After-wall) →
     let a = begin c .args in
@@ -100,7 +101,7 @@ returns c =
     let t = f .before .before in
     let s = start (t .before) in
     let a = s .args in
-    let o = step-of (a .wall) (a .row .now) (a .part .now) in
+    let o = step-of (a .wall) (pulses (a .row .now) []) (a .part .now) in
     said (a .taken .wall) (a .largest)
     (told-away _ (a .wall) (a .largest) (a .row .now) (a .part .now) (λ z. t .if1 .taken (number s ∙ z))
     ∙ ap (λ (x : Wall). says x (a .largest) (refused-line (number-shown (o .shows)) (offset-shown (o .shows)))) (sym (next s)))

@@ -11,13 +11,13 @@ slice-aggregate-tiles : tie.Need-slice-aggregate-tiles
 slice-aggregate-tiles c = search needs
 
 tiles-requires : tie.Need-tiles-requires
-tiles-requires c κs = let s = c .before .before .before .before .before .before in ((s .pre .0 .0, s .pre .0 .2, s .pre .0 .3, s .pre .1 .0, s .pre .1 .1), (omega (arith, s .pre), unfold row-room in omega (arith, s .pre)))
+tiles-requires c κs = let s = c .before .before .before .before .before .before .before in ((s .pre .0 .0, s .pre .0 .2, s .pre .0 .3, s .pre .1 .0, s .pre .1 .1, s .pre .1 .2), (omega (arith, s .pre), unfold row-room in omega (arith, s .pre)))
 
 slice-aggregate-seams : tie.Need-slice-aggregate-seams
 slice-aggregate-seams c = search needs
 
 seams-requires : tie.Need-seams-requires
-seams-requires c κs = let s = c .before .before .before .before .before .before .before .before .before .before .before .before in let a = s .args in let t = c .before .before .before .before .before .tiles .ensures in ((s .pre .0 .0, s .pre .0 .1, s .pre .0 .2, s .pre .0 .3, s .pre .1 .0, s .pre .1 .1), (omega (arith, s .pre), t .1, unfold row-room in omega (arith, s .pre, t .0 .goes, t .0 .as-long, tiles-length (a .row) (a .marks .now) (a .times .now) (omega (arith, s .pre)) (a .width) (omega (arith, s .pre)))))
+seams-requires c κs = let s = c .before .before .before .before .before .before .before .before .before .before .before .before .before in let a = s .args in let t = c .before .before .before .before .before .tiles .ensures in ((s .pre .0 .0, s .pre .0 .1, s .pre .0 .2, s .pre .0 .3, s .pre .1 .0, s .pre .1 .1), (omega (arith, s .pre), t .1, unfold row-room in omega (arith, s .pre, t .0 .goes, t .0 .as-long, tiles-length (a .row) (a .marks .now) (a .times .now) (a .letters .now) (omega (arith, s .pre)) (a .width) (omega (arith, s .pre)))))
 
 same-length : tie.Need-same-length
 same-length c = search needs

@@ -5,10 +5,12 @@ use native.Mathlib.Omega.{arith}
 use borrow.Author.Needs.{needs}
 use Rattle.tables.specs.Word.{bytes, spaced}
 use Rattle.tile_lines.specs.Tile.{tile-after}
+use Rattle.lines.specs.Number.{decimal}
 use Rattle.lines.proofs.Laws.Number.{decimal-length}
 use Rattle.columns.proofs.Laws.Wrote.{wrote-then, wrote-as}
 use Rattle.tables.proofs.Laws.Word.{wrote-bytes}
 use Rattle.words.proofs.Laws.Columns.{column-short, wrote-column}
+use Rattle.tile_lines.proofs.Laws.Row.{lettered-is}
 use Rattle.tile_lines.proofs.tile.Statement.{statement}
 use Rattle.tile_lines.proofs.tile.Tie as tie
 
@@ -63,9 +65,7 @@ returns : tie.Need-returns
 unfolding tile-after
 returns c = let s = c .before .before .before .before .before .before .before .before .before .before .before .before .before .before .before .before .before .before .before in
     let a = s .args in
-    let short = column-short (s .pre .0) (a .column) (omega arith) in
     let one = c .before .before .before .before .before .before .before .before .before .before .before .before .before .before .before .put .ensures .as-long in
-    let two = c .before .before .before .before .before .before .before .before .before .put2 .ensures .as-long in
     let head = wrote-bytes (a .head .word) (c .before .before .before .before .before .before .before .before .before .before .before .before .before .before .before .put .ensures) (omega arith) (a .head .length) (omega arith) in
     let column = wrote-column (s .pre .0) (a .column) (omega arith) (c .before .before .before .before .before .before .before .before .before .put2 .ensures) (omega (arith, one)) in
     let begun = wrote-then head column in
@@ -83,8 +83,8 @@ near-digits-requires c κs = let s = c .before .before .before .before .before .
     let two = c .before .before .before .before .before .before .put2 .ensures .as-long in
     (s .pre .0, c .before .to .ensures .1, omega (arith, short, one, two))
 
-byte-requires : tie.Need-byte-requires
-byte-requires c κs = let s = c .before .before .before .before .before .before .before .before .before .before .before .before .before .before .before .before .before .before .before .before in
+lettered-requires : tie.Need-lettered-requires
+lettered-requires c κs = let s = c .before .before .before .before .before .before .before .before .before .before .before .before .before .before .before .before .before .before .before .before in
     let a = s .args in
     let short = column-short (s .pre .0) (a .column) (omega arith) in
     let one = c .before .before .before .before .before .before .before .before .before .before .before .before .before .before .before .before .put .ensures .as-long in
@@ -99,13 +99,11 @@ returns-2 : tie.Need-returns-2
 unfolding tile-after
 returns-2 c = let s = c .before .before .before .before .before .before .before .before .before .before .before .before .before .before .before .before .before .before .before .before .before .before .before in
     let a = s .args in
-    let short = column-short (s .pre .0) (a .column) (omega arith) in
     let one = c .before .before .before .before .before .before .before .before .before .before .before .before .before .before .before .before .before .before .before .put .ensures .as-long in
-    let two = c .before .before .before .before .before .before .before .before .before .before .before .before .before .put2 .ensures .as-long in
     let head = wrote-bytes (a .head .word) (c .before .before .before .before .before .before .before .before .before .before .before .before .before .before .before .before .before .before .before .put .ensures) (omega arith) (a .head .length) (omega arith) in
     let column = wrote-column (s .pre .0) (a .column) (omega arith) (c .before .before .before .before .before .before .before .before .before .before .before .before .before .put2 .ensures) (omega (arith, one)) in
     let begun = wrote-then head column in
-    (rw (c .before .before .before .before .before .before .before .before .before .if1 .left) (wrote-then (wrote-then begun (c .before .before .before .before .before .before .near-digits .ensures)) (c .before .before .byte .ensures)), c .before .before .before .before .before .before .before .before .to .ensures .0)
+    (rw (c .before .before .before .before .before .before .before .before .before .if1 .left) (wrote-as (wrote-then (wrote-then begun (c .before .before .before .before .before .before .near-digits .ensures)) (c .before .before .lettered .ensures)) (lettered-is (bytes (a .head .length) (a .head .word) ++ spaced (a .column)) (decimal (a .time)) (a .letter))), c .before .before .before .before .before .before .before .before .to .ensures .0)
 
 pub tile-spec : {M : Type 1} → statement M
 tile-spec =
@@ -127,6 +125,6 @@ tile-spec =
     returns
     to-requires
     near-digits-requires
-    byte-requires
+    lettered-requires
     same-length-2
     returns-2)

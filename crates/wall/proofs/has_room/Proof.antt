@@ -15,10 +15,10 @@ moved at room k i =
     (λ j. lt-leb at (room - k) (omega (arith, i, j)) ∙ sym (lt-leb (at + k) room j))
 
 returns : tie.Need-returns
-returns c = let s = c .before .args in sym (lt-leb (s .at + 24640) (s .room) (omega arith))
+returns c = let s = c .before .args in sym (lt-leb (s .at + 25152) (s .room) (omega arith))
 
 returns-2 : tie.Need-returns-2
-returns-2 c = let s = c .before .args in moved (s .at) (s .room) 24640 (omega arith)
+returns-2 c = let s = c .before .args in moved (s .at) (s .room) 25152 (omega arith)
 
 pub has-room-spec : {M : Type 1} → statement M
 has-room-spec = tie.close (tie.spec returns returns-2)

@@ -1,25 +1,63 @@
 -- `step_in` meets its contract. Assumes nothing.
-use mathlib.Core.Path.{_∙_, ap}
+use mathlib.Core.Path.{_≡_, sym, _∙_, ap}
+use mathlib.Core.Bool.{true}
 use lib.ListN.{length}
-use Rattle.steps.specs.Take.{taken, taken-of}
+use borrow.Author.Tests.{not-true, not-false}
+use Rattle.row.specs.Row.{Pulses, pulses}
+use Rattle.stages.specs.Fit.{wall-fits}
+use Rattle.steps.specs.Step.{step-of}
+use Rattle.steps.specs.Take.{taken, taken-of, step-from}
 use Rattle.steps.specs.declared.Taken.{Taken}
 use Rattle.wall.proofs.Laws.Fit.{by-wall}
-use Rattle.steps.proofs.Laws.Fit.{fit-both, fit-none}
+use Rattle.steps.proofs.Laws.Answer.{taken-same}
+use Rattle.steps.proofs.Laws.Fit.{fit-all, fit-none}
 use Rattle.steps.proofs.Laws.Taken.{Taken-step, taken-step, unfit-step}
 use Rattle.wall.proofs.Laws.Stepping.{unfit, went}
 use borrow.Author.Needs.{needs}
 use Rattle.wall.proofs.step_in.Statement.{statement}
 use Rattle.wall.proofs.step_in.Tie as tie
 
--- the start of the function, and the step that is taken
-abbrev start : tie.After-take-in → tie.Start
-start c = c .before .before .before .before .before .before .before .before .before .before
+-- the start of the function, the wall's row, and room for the next
+abbrev start : tie.After-fits2 → tie.Start
+start c = c .before .before .before .before .before .before .before .before .before
+
+abbrev last : tie.Start → Pulses
+last s = pulses (s .args .row .now) (s .args .letters .now)
+
+abbrev room : tie.Start → Pulses
+room s = pulses (s .args .next .now) (s .args .«next-letters» .now)
+
+letters-fit : (c : tie.Else1) → let a = start (c .before) .args in wall-fits (a .wall) (length (a .letters .now)) ≡ true
+letters-fit c = sym (c .before .fits2 .ensures) ∙ not-false _ (c .if1 .left)
+
+-- from the step that is taken
+abbrev test : tie.After-take-in → tie.Else1
+test c = c .before .before .before .before .before
+
+abbrev begin : tie.After-take-in → tie.Start
+begin c = start (test c .before)
 
 abbrev call : tie.After-taken → tie.After-take-in
-call c = c .before .before .before .before .before .before
+call c = c .before .before .before .before .before .before .before .before
 
-step : (c : tie.After-taken) → let a = start (call c) .args in Taken-step (a .wall) (a .part .now) (a .row .now) (a .next .now) (c .taken .given .0 .0) (call c .take-in .last .1 .1 .1 .1 .0)
+step : (c : tie.After-taken) → let s = begin (call c) in let a = s .args in
+    Taken-step (a .wall) (a .part .now) (a .row .now) (room s) (c .taken .given .0 .0) (pulses (call c .take-in .last .1 .1 .1 .1 .0) (call c .take-in .last .1 .1 .1 .1 .1 .0))
 step c = taken-step (call c .take-in .ensures) (c .taken .given .1)
+
+-- what it answers does not depend on the letters that it is lent
+taken-is : (c : tie.After-taken) → let s = begin (call c) in c .taken .given .0 .0 ≡ taken-of (step-of (s .args .wall) (last s) (s .args .part .now))
+unfolding step-from
+taken-is c = let a = begin (call c) .args in step c .is ∙ taken-same (a .wall) (a .row .now) (a .part .now) (a .«next-letters» .now) (a .letters .now)
+
+fits-requires : tie.Need-fits-requires
+fits-requires c κs = search needs
+
+returns : tie.Need-returns
+returns c =
+    let s = start (c .before) in
+    let a = s .args in
+    unfit (a .wall) (a .part .now) (last s) (a .out .now) (a .at)
+    (by-wall (a .wall) (last s) (length (a .out .now)) (a .at) (s .pre .4) ∙ rw (sym (c .before .fits2 .ensures) ∙ not-true _ (c .if1 .taken)))
 
 take-in-requires : tie.Need-take-in-requires
 take-in-requires c κs = search needs
@@ -29,10 +67,10 @@ enum-known-taken c = search needs
 
 show-requires : tie.Need-show-requires
 show-requires c κs =
-    let t = c .before .before .before .before in
-    let s = start (call t) in
+    let t = c .before .before .before .before .before .before in
+    let s = begin (call t) in
     let k = step t in
-    ((s .pre .0, fit-both _ _ _ (k .fits) .0, s .pre .3), (k .is, record { held = s .args .next .now; is = k .written }))
+    ((s .pre .0, fit-all _ _ _ (k .fits) .0, letters-fit (test (call t)), s .pre .4), (taken-is t, record { held = room s; is = k .written }))
 
 enum-told : tie.Need-enum-told
 enum-told c = search needs
@@ -49,38 +87,50 @@ same-length-3 c = search needs
 same-length-4 : tie.Need-same-length-4
 same-length-4 c = search needs
 
-returns : tie.Need-returns
-unfolding taken-of taken
-returns c =
-    let f = c .before .before .before .before in
-    let t = f .before .before .before .before .before in
-    let a = start (call t) .args in
-    let k = step t in
-    went (a .wall) (a .part .now) (a .row .now) (a .out .now) (a .at)
-    (by-wall (a .wall) (length (a .row .now)) (length (a .out .now)) (a .at) (start (call t) .pre .3) ∙ fit-both _ _ _ (k .fits) .0)
-    (ap (λ (u : Taken). u .wall) (k .is)) (f .show .ensures .0) (f .show .ensures .1)
-
 same-length-5 : tie.Need-same-length-5
 same-length-5 c = search needs
 
 same-length-6 : tie.Need-same-length-6
 same-length-6 c = search needs
 
+returns-2 : tie.Need-returns-2
+unfolding taken-of taken
+returns-2 c =
+    let f = c .before .before .before .before .before .before in
+    let t = f .before .before .before .before .before .before .before in
+    let s = begin (call t) in
+    let a = s .args in
+    went (a .wall) (a .part .now) (last s) (a .out .now) (a .at)
+    (by-wall (a .wall) (last s) (length (a .out .now)) (a .at) (s .pre .4) ∙ rw (letters-fit (test (call t))) (fit-all _ _ _ (step t .fits) .0))
+    (ap (λ (u : Taken). u .wall) (taken-is t)) (f .show .ensures .0) (f .show .ensures .1)
+
 same-length-7 : tie.Need-same-length-7
 same-length-7 c = search needs
 
-returns-2 : tie.Need-returns-2
-returns-2 c =
-    let t = c .before .before .before .before .before .before in
-    let s = start t in
+same-length-8 : tie.Need-same-length-8
+same-length-8 c = search needs
+
+same-length-9 : tie.Need-same-length-9
+same-length-9 c = search needs
+
+same-length-10 : tie.Need-same-length-10
+same-length-10 c = search needs
+
+returns-3 : tie.Need-returns-3
+returns-3 c =
+    let t = c .before .before .before .before .before .before .before .before in
+    let s = begin t in
     let a = s .args in
-    unfit (a .wall) (a .part .now) (a .row .now) (a .out .now) (a .at)
-    (by-wall (a .wall) (length (a .row .now)) (length (a .out .now)) (a .at) (s .pre .3) ∙ fit-none _ _ _ (s .pre .2) (unfit-step (t .take-in .ensures) (c .enum-told .given .1)))
+    unfit (a .wall) (a .part .now) (last s) (a .out .now) (a .at)
+    (by-wall (a .wall) (last s) (length (a .out .now)) (a .at) (s .pre .4)
+    ∙ rw (letters-fit (test t)) (fit-none _ _ (room s) (s .pre .2) (s .pre .3) (unfit-step (t .take-in .ensures) (c .enum-told .given .1))))
 
 pub step-in-spec : {M : Type 1} → statement M
 step-in-spec =
     tie.close
     (tie.spec
+    fits-requires
+    returns
     take-in-requires
     enum-known-taken
     show-requires
@@ -89,8 +139,11 @@ step-in-spec =
     same-length-2
     same-length-3
     same-length-4
-    returns
     same-length-5
     same-length-6
+    returns-2
     same-length-7
-    returns-2)
+    same-length-8
+    same-length-9
+    same-length-10
+    returns-3)

@@ -22,13 +22,16 @@ refused-words-requires c κs = search needs
 same-length : tie.Need-same-length
 same-length c = search needs
 
+same-length-2 : tie.Need-same-length-2
+same-length-2 c = search needs
+
 returns : tie.Need-returns
 unfolding step-number wall-left offset-left
 returns c =
     let p = c .before .before in
     let t = p .before .before .before in
-    let s = t .before .before .before .before in
-    let e = sym (s .stepped .ensures .0) ∙ t .taken .given .1 in
+    let s = t .before .before .before .before .before .before in
+    let e = rw (s .stepped .ensures .0) at (t .taken .given .1) in
     let some = ne-eqb (t .taken .given .0 .0 .number) 0 (c .before .if1 .taken) in (
       sym (rw e),
       (
@@ -46,16 +49,19 @@ wall-words-requires c κs = search needs
 enum-told : tie.Need-enum-told
 enum-told c = search needs
 
-same-length-2 : tie.Need-same-length-2
-same-length-2 c = search needs
+same-length-3 : tie.Need-same-length-3
+same-length-3 c = search needs
+
+same-length-4 : tie.Need-same-length-4
+same-length-4 c = search needs
 
 returns-2 : tie.Need-returns-2
 unfolding step-number wall-left offset-left
 returns-2 c =
     let p = c .before .before in
     let t = p .before .before .before in
-    let s = t .before .before .before .before in
-    let e = sym (s .stepped .ensures .0) ∙ t .taken .given .1 in
+    let s = t .before .before .before .before .before .before in
+    let e = rw (s .stepped .ensures .0) at (t .taken .given .1) in
     let none = eq-eqb (t .taken .given .0 .0 .number) 0 (c .before .if1 .left) in (
       sym (rw e (c .before .if1 .left)),
       (
@@ -67,14 +73,17 @@ returns-2 c =
       ),
     )
 
-same-length-3 : tie.Need-same-length-3
-same-length-3 c = search needs
+same-length-5 : tie.Need-same-length-5
+same-length-5 c = search needs
+
+same-length-6 : tie.Need-same-length-6
+same-length-6 c = search needs
 
 returns-3 : tie.Need-returns-3
 unfolding step-number wall-left offset-left
 returns-3 c =
-    let s = c .before .before .before .before in
-    let e = sym (s .stepped .ensures .0) ∙ c .enum-told .given .1 in
+    let s = c .before .before .before .before .before .before in
+    let e = rw (s .stepped .ensures .0) at (c .enum-told .given .1) in
     (sym (rw e), (sym (rw e), (s .stepped .ensures .1, sym (rw e))))
 
 pub step-spec : {M : Type 1} → statement M
@@ -86,10 +95,13 @@ step-spec =
     place-in-requires
     refused-words-requires
     same-length
+    same-length-2
     returns
     wall-words-requires
     enum-told
-    same-length-2
-    returns-2
     same-length-3
+    same-length-4
+    returns-2
+    same-length-5
+    same-length-6
     returns-3)

@@ -1,9 +1,8 @@
 -- `stepped` meets its contract. Assumes nothing.
-use mathlib.Core.Path.{sym, _∙_, ap}
-use lib.ListN.{length}
+use mathlib.Core.Path.{sym, _∙_}
+use Rattle.row.specs.Row.{pulses}
 use borrow.Author.Tests.{eq-eqb, ne-eqb}
-use Rattle.stages.specs.declared.Wall.{Wall}
-use Rattle.steps.specs.Take.{taken, answer-of, row-after}
+use Rattle.steps.specs.Take.{taken}
 use Rattle.layout.specs.Words.{refused-number}
 use Rattle.wall_calls.specs.Answers.{step-answer, next-left}
 use borrow.Author.Needs.{needs}
@@ -13,8 +12,8 @@ use Rattle.wall_calls.proofs.stepped.Tie as tie
 refused-number-requires : tie.Need-refused-number-requires
 refused-number-requires c κs = search needs
 
-element-copy-out-t10 : tie.Need-element-copy-out-t10
-element-copy-out-t10 c = search needs
+element-copy-out-offset : tie.Need-element-copy-out-offset
+element-copy-out-offset c = search needs
 
 returns : tie.Need-returns
 unfolding step-answer next-left taken
@@ -35,18 +34,23 @@ take-requires c κs = search needs
 same-length : tie.Need-same-length
 same-length c = search needs
 
+same-length-2 : tie.Need-same-length-2
+same-length-2 c = search needs
+
 returns-2 : tie.Need-returns-2
 unfolding step-answer next-left
 returns-2 c =
-    let t = c .before .before in
-    let w = t .before .before in
+    let t = c .before .before .before .before in
+    let w = t .before .before .before in
     let k = w .before .before in
     let e = k .before in
-    let a = e .before .before .before .before .before .args in
+    let s = e .before .before .before .before .before .before in
+    let a = s .args in
+    let held = pulses (a .next .now) (a .letters .now) in
     let none = eq-eqb _ 0 (sym (e .before .refused-number .ensures) ∙ e .if1 .left) in
     let fits = sym (k .takes .ensures) ∙ w .before .if2 .taken in (
-      t .take .ensures .answered ∙ ap (λ (x : Wall). answer-of x (a .part .now) (a .row .now) (length (a .next .now))) (w .wall-in .ensures) ∙ sym (rw (none, fits)),
-      t .take .ensures .written ∙ ap (λ (x : Wall). row-after x (a .part .now) (a .row .now) (a .next .now)) (w .wall-in .ensures) ∙ sym (rw (none, fits)),
+      rw (none, fits) (rw (w .wall-in .ensures) at (t .take .ensures .answered)),
+      rw (none, fits) (rw (w .wall-in .ensures) at (t .take .ensures .written)),
     )
 
 returns-3 : tie.Need-returns-3
@@ -63,11 +67,12 @@ stepped-spec =
     tie.close
     (tie.spec
     refused-number-requires
-    element-copy-out-t10
+    element-copy-out-offset
     returns
     takes-requires
     wall-in-requires
     take-requires
     same-length
+    same-length-2
     returns-2
     returns-3)

@@ -12,6 +12,7 @@ use wall_reference::generate::ends::ENDS;
 use wall_reference::generate::kind::{kind, Kind};
 use wall_reference::generate::rng::Rng;
 use wall_reference::print::wallrun;
+use wall_reference::rule::Letter;
 use wall_reference::shape::is_marked;
 
 #[derive(Default)]
@@ -22,6 +23,8 @@ pub struct Wallrun {
     at_ends: [u64; ENDS.len()],
     /// Tiles printed.
     tiles: u64,
+    /// Those that are correct, by letter.
+    lettered: BTreeMap<Letter, u64>,
     /// Faulty tiles by what they send, those of row 0 among them, which is not printed.
     faulty: BTreeMap<Kind, u64>,
     closed: u64,
@@ -73,6 +76,9 @@ impl Reference for Wallrun {
         }
         line("bad arguments", self.bad_arguments);
         line("tiles", self.tiles);
+        for (letter, count) in &self.lettered {
+            line(&format!("  {letter}"), *count);
+        }
         line("faulty tiles", self.faulty.values().sum());
         for (kind, count) in &self.faulty {
             line(&format!("  {}", name(*kind)), *count);
@@ -90,6 +96,9 @@ impl Reference for Wallrun {
         let kinds = Kind::ALL.into_iter();
         let never = kinds.filter(|kind| !self.faulty.contains_key(kind));
         missing.extend(never.map(|kind| name(kind).into()));
+        let letters = Letter::ALL.into_iter();
+        let never = letters.filter(|letter| !self.lettered.contains_key(letter));
+        missing.extend(never.map(|letter| format!("letter {letter}")));
         missing
     }
 }
@@ -117,11 +126,20 @@ impl Wallrun {
     fn add_lines(&mut self, printed: &[u8]) {
         for line in printed.split(|&byte| byte == b'\n') {
             match line.first() {
-                Some(b't') => self.tiles += 1,
+                Some(b't') => self.add_tile(line),
                 Some(b's') if line.windows(5).any(|part| part == b" open") => self.open += 1,
                 Some(b's') => self.closed += 1,
                 _ => {}
             }
+        }
+    }
+
+    /// Counts a tile by the letter at the end of its line; a faulty one has none.
+    fn add_tile(&mut self, line: &[u8]) {
+        self.tiles += 1;
+        let mut letters = Letter::ALL.into_iter();
+        if let Some(letter) = letters.find(|letter| line.ends_with(&[letter.byte()])) {
+            *self.lettered.entry(letter).or_default() += 1;
         }
     }
 }

@@ -8,7 +8,7 @@ abbrev Inv-loop : tie.InvT-loop
 Inv-loop numbers₀ count₀ numbers count = Unit {0}
 
 abbrev μ-loop : tie.MeasureT-loop
-μ-loop numbers₀ count₀ numbers count = 18 - count
+μ-loop numbers₀ count₀ numbers count = 19 - count
 
 loop-holds : tie.Need-loop-holds Inv-loop μ-loop
 loop-holds c = search needs

@@ -12,6 +12,7 @@ use Rattle.pulse.specs.Pulse.{pulse}
 use Rattle.columns.specs.Marks.{mark-bytes}
 use Rattle.columns.specs.Plain.{Plain}
 use Rattle.row.specs.declared.progress.Progress.{Progress}
+use Rattle.row.specs.Row.{pulses}
 use Rattle.row.specs.Progress.{So-far}
 use Rattle.admission.proofs.Laws.Accepted.{Accepted, accepted}
 use Rattle.pulse.proofs.Laws.Plain.{plain-tile, plain-pulse}
@@ -20,20 +21,20 @@ use Rattle.row.proofs.progress.further.Statement.{statement}
 use Rattle.row.proofs.progress.further.Tie as tie
 
 abbrev Inv-loop : tie.InvT-loop
-Inv-loop settings step before marks drifts links times₀ first so-far₀ times so-far =
-    So-far settings before (call marks drifts links (settings .width)) times₀ times so-far
+Inv-loop settings step before marks drifts links times₀ letters₀ first so-far₀ times letters so-far =
+    So-far settings before (call marks drifts links (settings .width) (settings .width)) (pulses times₀ letters₀) (pulses times letters) so-far
     × (first ≤ so-far .next)
     × (so-far .next ≤ first + 8)
 
 abbrev μ-loop : tie.MeasureT-loop
-μ-loop settings step before marks drifts links times₀ first so-far₀ times so-far = first + 8 - so-far .next
+μ-loop settings step before marks drifts links times₀ letters₀ first so-far₀ times letters so-far = first + 8 - so-far .next
 
 abbrev start : tie.After-plain Inv-loop μ-loop → tie.Start Inv-loop μ-loop
-start c = c .before .before .before .before .before .before
+start c = c .before .before .before .before .before .before .before
 
 -- what was lent
 abbrev lent : tie.Start Inv-loop μ-loop → Call
-lent s = call (s .args .marks .now) (s .args .drifts .now) (s .args .links .now) (s .args .settings .width)
+lent s = call (s .args .marks .now) (s .args .drifts .now) (s .args .links .now) (s .args .settings .width) (s .args .settings .width)
 
 ok : (s : tie.Start Inv-loop μ-loop) → Accepted (s .args .settings) (s .args .before .now) (lent s)
 ok s = accepted (s .args .settings) (s .args .before .now) (lent s) (s .pre .0 .0)
@@ -45,6 +46,7 @@ record Sizes (s : tie.Start Inv-loop μ-loop) : Type 0 where
   pub here : s .args .done .next < s .args .settings .width
   pub most : s .args .settings .width ≤ 256
   pub times : length (s .args .times .now) ≡ s .args .settings .width
+  pub letters : length (s .args .letters .now) ≡ s .args .settings .width
   pub before : length (s .args .before .now) ≡ s .args .settings .width
   pub drifts : length (s .args .drifts .now) ≡ s .args .settings .width
   pub marks : length (s .args .marks .now) ≡ mark-bytes (s .args .settings .width)
@@ -53,9 +55,10 @@ sizes : (s : tie.Start Inv-loop μ-loop) → Sizes s
 unfolding call
 sizes s =
     record {
-      here = s .pre .0 .3;
+      here = s .pre .0 .4;
       most = bounds s .width .1;
       times = s .pre .0 .2;
+      letters = s .pre .0 .3;
       before = ok s .lengths .before;
       drifts = ok s .lengths .drifts;
       marks = ok s .lengths .marks;
@@ -63,7 +66,7 @@ sizes s =
 
 plain-requires : tie.Need-plain-requires Inv-loop μ-loop
 plain-requires c κs =
-    let z = sizes (c .before .before .before .before .before) in
+    let z = sizes (c .before .before .before .before .before .before) in
     (omega (arith, z .here, z .before), omega (arith, z .most, z .before), z .marks ∙ ap mark-bytes (sym (z .before)))
 
 -- one tile
@@ -71,19 +74,22 @@ pulse-requires : tie.Need-pulse-requires Inv-loop μ-loop
 pulse-requires c κs = let s = start (c .before) in (s .pre .0 .0, s .pre .0 .1, omega (arith, sizes s .here))
 
 put-requires : tie.Need-put-requires Inv-loop μ-loop
-put-requires c κs = let z = sizes (start (c .before .before .before)) in (omega (arith, z .here, z .times), omega (arith, z .most, z .times))
+put-requires c κs = let z = sizes (start (c .before .before .before .before)) in (omega (arith, z .here, z .times), omega (arith, z .most, z .times), omega (arith, z .times, z .letters))
 
 same-length : tie.Need-same-length Inv-loop μ-loop
 same-length c = search needs
 
+same-length-2 : tie.Need-same-length-2 Inv-loop μ-loop
+same-length-2 c = search needs
+
 returns : tie.Need-returns Inv-loop μ-loop
 returns c =
-    let p = c .before .before in
-    let q = p .before .before in
+    let p = c .before .before .before .before in
+    let q = p .before .before .before in
     let s = start (q .before .before) in
     let z = sizes s in (
-      tile-more (s .pre .1) (omega (arith, z .here, z .times)) (z .here) (q .pulse .ensures) (p .put .ensures .0) (p .put .ensures .1),
-      omega (arith, ap (λ (d : Progress). d .next) (p .put .ensures .1)),
+      tile-more (s .pre .1) (omega (arith, z .here, z .times)) (omega (arith, z .here, z .letters)) (z .here) (q .pulse .ensures) (p .put .ensures .0) (p .put .ensures .1 .0) (p .put .ensures .1 .1),
+      omega (arith, ap (λ (d : Progress). d .next) (p .put .ensures .1 .1)),
     )
 
 -- eight tiles
@@ -137,35 +143,41 @@ correct-requires c κs =
 
 put-requires-2 : tie.Need-put-requires-2 Inv-loop μ-loop
 put-requires-2 c κs =
-    let t = c .before .before .before in
+    let t = c .before .before .before .before in
     let z = sizes (begin t) in
-    let same = t .before .before .loop .inv .0 .pulses .as-long in
-    (omega (arith, in-row t .in-row, z .times, same), omega (arith, z .most, z .times, same))
+    let f = t .before .before .loop .inv .0 in (
+      omega (arith, in-row t .in-row, z .times, f .pulses .as-long),
+      omega (arith, z .most, z .times, f .pulses .as-long),
+      omega (arith, z .times, z .letters, f .pulses .as-long, f .letters .as-long),
+    )
 
-one-on : (p : tie.After-put2 Inv-loop μ-loop) → p .put2 .result .next ≡ column (p .before .before .before .before) + 1
-one-on p = ap (λ (d : Progress). d .next) (p .put2 .ensures .1)
+one-on : (p : tie.After-put2 Inv-loop μ-loop) → p .put2 .result .next ≡ column (p .before .before .before .before .before) + 1
+one-on p = ap (λ (d : Progress). d .next) (p .put2 .ensures .1 .1)
 
 loop-less : tie.Need-loop-less Inv-loop μ-loop
 loop-less c =
-    let p = c .before .before in
-    omega (arith, in-row (p .before .before .before .before) .to, one-on p)
+    let p = c .before .before .before .before in
+    omega (arith, in-row (p .before .before .before .before .before) .to, one-on p)
 
 loop-again : tie.Need-loop-again Inv-loop μ-loop
 unfolding call
 loop-again c =
-    let p = c .before .before in
-    let q = p .before .before in
+    let p = c .before .before .before .before in
+    let q = p .before .before .before in
     let t = q .before .before in
     let s = begin t in
     let i = in-row t in (
-      tile-more (t .before .before .loop .inv .0) (omega (arith, i .in-row, sizes s .times)) (omega (arith, i .in-row))
-          (plain-pulse (ok s) (i .plain) (column t) (i .from) (i .to) (s .args .step) (s .pre .0 .1) (q .correct .ensures)) (p .put2 .ensures .0) (p .put2 .ensures .1),
+      tile-more (t .before .before .loop .inv .0) (omega (arith, i .in-row, sizes s .times)) (omega (arith, i .in-row, sizes s .letters)) (omega (arith, i .in-row))
+          (plain-pulse (ok s) (i .plain) (column t) (i .from) (i .to) (s .args .step) (s .pre .0 .1) (q .correct .ensures)) (p .put2 .ensures .0) (p .put2 .ensures .1 .0) (p .put2 .ensures .1 .1),
       omega (arith, one-on p, i .from),
       omega (arith, one-on p, i .to),
     )
 
-same-length-2 : tie.Need-same-length-2 Inv-loop μ-loop
-same-length-2 c = c .before .before .loop .inv .0 .pulses .as-long
+same-length-3 : tie.Need-same-length-3 Inv-loop μ-loop
+same-length-3 c = c .before .before .loop .inv .0 .pulses .as-long
+
+same-length-4 : tie.Need-same-length-4 Inv-loop μ-loop
+same-length-4 c = c .before .before .loop .inv .0 .letters .as-long
 
 returns-2 : tie.Need-returns-2 Inv-loop μ-loop
 returns-2 c =
@@ -182,6 +194,7 @@ further-spec =
     pulse-requires
     put-requires
     same-length
+    same-length-2
     returns
     loop-holds
     add-if2
@@ -192,5 +205,6 @@ further-spec =
     put-requires-2
     loop-less
     loop-again
-    same-length-2
+    same-length-3
+    same-length-4
     returns-2)

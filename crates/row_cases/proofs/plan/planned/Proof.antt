@@ -53,6 +53,12 @@ array-borrow-prefix-row c = search needs
 slice-aggregate-plan-5 : tie.Need-slice-aggregate-plan-5
 slice-aggregate-plan-5 c = simp length-take (omega arith)
 
+array-borrow-prefix-letters : tie.Need-array-borrow-prefix-letters
+array-borrow-prefix-letters c = search needs
+
+slice-aggregate-plan-6 : tie.Need-slice-aggregate-plan-6
+slice-aggregate-plan-6 c = simp length-take (omega arith)
+
 plan-requires : tie.Need-plan-requires
 plan-requires c κs = search needs
 
@@ -85,6 +91,8 @@ planned-spec =
     slice-aggregate-plan-4
     array-borrow-prefix-row
     slice-aggregate-plan-5
+    array-borrow-prefix-letters
+    slice-aggregate-plan-6
     plan-requires
     look-requires
     told-requires

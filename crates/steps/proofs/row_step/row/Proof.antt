@@ -8,6 +8,7 @@ use Rattle.settings.proofs.Laws.Settings.{limits}
 use Rattle.columns.specs.Marks.{mark-bytes}
 use Rattle.fields.specs.Field.{field-refusal}
 use Rattle.contents.specs.Contents.{marks-field, row-size, marks-in}
+use Rattle.row.specs.Row.{Pulses, pulses}
 use Rattle.steps.specs.Step.{Stepped, after-row}
 use Rattle.steps.specs.Take.{taken, taken-of, row-left}
 use Rattle.stages.specs.declared.Wall.{Wall}
@@ -21,10 +22,17 @@ use Rattle.steps.proofs.row_step.row.Tie as tie
 
 -- the start of the function, from the number of the marks' field
 abbrev start : tie.After-refusal → tie.Start
-start c = c .before .before .before .before .before
+start c = c .before .before .before .before .before .before
 
 fit : (s : tie.Start) → Fit (s .args .place) (length (s .args .row .now))
 fit s = fit-of (s .args .place) (length (s .args .row .now)) (s .pre .0)
+
+-- the row that the step is from, and the rows that are lent to be written
+abbrev from : tie.Start → Pulses
+from s = pulses (s .args .row .now) (s .args .letters .now)
+
+abbrev held : tie.Start → Pulses
+held s = pulses (s .args .next .now) (s .args .letters .now)
 
 narrow : (s : tie.Start) → length (s .args .row .now) ≤ 256
 narrow s = omega (arith, fit s .long, limits (s .args .place .settings) (fit s .pass) .width)
@@ -53,25 +61,25 @@ returns c =
     let a = s .args in
     let n = t .before .refusal .result in
     let field = t .before .refusal .ensures ∙ ap (λ (w : ℕ). field-refusal 3 ((w + 7) / 8) (a .part .now)) (fit s .long) in
-    let e = row-away (a .row .now) (a .part .now) (a .place .settings) (a .place .offset) (a .place .row) n (a .place .offset)
+    let e = row-away (from s) (a .part .now) (a .place .settings) (a .place .offset) (a .place .row) n (a .place .offset)
     (number-of-marks (a .place .settings) (a .row .now) (a .part .now) n field (t .if1 .taken)) (t .if1 .taken)
     (offset-of-marks (a .place .settings) (a .row .now) (a .part .now) n field (t .if1 .taken) (a .place .offset)) in (
-      c .refused .ensures ∙ sym (ap taken-of e ∙ taken-away (a .row .now) (a .row .now) n (a .place .offset)),
-      sym (ap (λ (o : Stepped). row-left o (a .next .now)) e ∙ left-away (a .row .now) (a .next .now) n (a .place .offset) (t .if1 .taken)),
+      c .refused .ensures ∙ sym (ap taken-of e ∙ taken-away (from s) (from s) n (a .place .offset)),
+      sym (ap (λ (o : Stepped). row-left o (held s)) e ∙ left-away (from s) (held s) n (a .place .offset) (t .if1 .taken)),
     )
 
 plan-requires : tie.Need-plan-requires
 plan-requires c κs =
-    let e = c .before .before .before in
+    let e = c .before .before .before .before in
     let s = start (e .before) in
-    (record { pass = fit s .pass; marks-there = there e; before-long = fit s .long; times-long = fit-of _ _ (s .pre .1) .long }, s .pre .2)
+    (record { pass = fit s .pass; marks-there = there e; before-long = fit s .long; times-long = fit-of _ _ (s .pre .1) .long; letters-long = fit-of _ _ (s .pre .2) .long }, s .pre .3)
 
 add-refused : tie.Need-add-refused
 add-refused c = search needs
 
 add-refused-2 : tie.Need-add-refused-2
 add-refused-2 c =
-    let s = start (c .before .before .before .before .before .before .before .before .before .before .before) in
+    let s = start (c .before .before .before .before .before .before .before .before .before .before .before .before .before .before) in
     omega (arith, fit s .offset, narrow s)
 
 refused-requires-2 : tie.Need-refused-requires-2
@@ -83,59 +91,65 @@ same-length c = search needs
 same-length-2 : tie.Need-same-length-2
 same-length-2 c = search needs
 
+same-length-3 : tie.Need-same-length-3
+same-length-3 c = search needs
+
 returns-2 : tie.Need-returns-2
 unfolding marks-field mark-bytes
 returns-2 c =
     let t = c .before .before in
-    let p = t .before .before .before .before .before in
-    let b = p .before .before .before .before in
+    let p = t .before .before .before .before .before .before .before in
+    let b = p .before .before .before .before .before in
     let s = start (b .before) in
     let a = s .args in
     let n = p .plan .result in
-    let e = row-away (a .row .now) (a .part .now) (a .place .settings) (a .place .offset) (a .place .row) n _
-    (p .plan .ensures .answered ∙ sym (number-of-row (a .place .settings) (a .row .now) (a .part .now) (there b))) (t .if2 .taken)
+    let e = row-away (from s) (a .part .now) (a .place .settings) (a .place .offset) (a .place .row) n _
+    (rw (number-of-row (a .place .settings) (a .row .now) (a .part .now) (there b)) (p .plan .ensures .answered)) (t .if2 .taken)
     (ap (λ (n : ℕ). a .place .offset + (3 + (n + 7) / 8)) (fit s .long) ∙ sym (offset-of-row (a .place .settings) (a .row .now) (a .part .now) (there b) (a .place .offset))) in (
-      c .refused2 .ensures ∙ sym (ap taken-of e ∙ taken-away (a .row .now) (a .row .now) n _),
-      worked-away (p .plan .ensures) (t .if2 .taken) ∙ sym (ap (λ (o : Stepped). row-left o (a .next .now)) e ∙ left-away (a .row .now) (a .next .now) n _ (t .if2 .taken)),
+      c .refused2 .ensures ∙ sym (ap taken-of e ∙ taken-away (from s) (from s) n _),
+      rw (e, left-away (from s) (held s) n _ (t .if2 .taken)) (worked-away (p .plan .ensures) (t .if2 .taken)),
     )
 
 size-requires : tie.Need-size-requires
-size-requires c κs = narrow (start (c .before .before .before .before .before .before .before .before .before .before))
+size-requires c κs = narrow (start (c .before .before .before .before .before .before .before .before .before .before .before .before .before))
 
 after-requires : tie.Need-after-requires
 after-requires c κs =
-    let s = start (c .before .before .before .before .before .before .before .before .before .before .before) in
+    let s = start (c .before .before .before .before .before .before .before .before .before .before .before .before .before .before) in
     let k = limits (s .args .place .settings) (fit s .pass) in
     (omega (arith, fit s .row, k .rows), omega (arith, fit s .offset, c .size .ensures, row-small (length (s .args .row .now)) (narrow s)))
 
 went-on-requires : tie.Need-went-on-requires
 went-on-requires c κs = search needs
 
-same-length-3 : tie.Need-same-length-3
-same-length-3 c = search needs
-
 same-length-4 : tie.Need-same-length-4
 same-length-4 c = search needs
+
+same-length-5 : tie.Need-same-length-5
+same-length-5 c = search needs
+
+same-length-6 : tie.Need-same-length-6
+same-length-6 c = search needs
 
 returns-3 : tie.Need-returns-3
 returns-3 c =
     let f = c .before in
     let z = f .before in
     let t = z .before in
-    let p = t .before .before .before .before .before in
-    let b = p .before .before .before .before in
+    let p = t .before .before .before .before .before .before .before in
+    let b = p .before .before .before .before .before in
     let s = start (b .before) in
     let a = s .args in
     let k = a .place .settings in
     let w = fit s .long in
-    let e = row-goes (a .row .now) (a .part .now) k (a .place .offset) (a .place .row)
-    (number-of-row k (a .row .now) (a .part .now) (there b) ∙ sym (p .plan .ensures .answered) ∙ t .if2 .left) in
-    let n = no-number k (a .place .row) (marks-in (k .width) (a .part .now)) (a .row .now) in
+    let e = row-goes (from s) (a .part .now) k (a .place .offset) (a .place .row)
+    (rw (number-of-row k (a .row .now) (a .part .now) (there b), ← p .plan .ensures .answered) (t .if2 .left)) in
+    let n = no-number k (a .place .row) (marks-in (k .width) (a .part .now)) (from s) in
     let next =
     (rw add-one at (f .after .ensures))
     ∙ ap (λ (n : ℕ). after-row k (suc (a .place .row)) (a .place .offset + n)) (z .size .ensures ∙ ap row-size w) in (
-      c .went-on .ensures ∙ ap (λ (x : Wall). taken x 0 0) next ∙ sym (ap taken-of e ∙ taken-on _ (a .next .now) _ _ (n .0) (n .1)),
-      worked-row (p .plan .ensures) (t .if2 .left) ∙ sym (ap (λ (o : Stepped). row-left o (a .next .now)) e ∙ left-on _ (a .next .now) _ _ (n .0)),
+      c .went-on .ensures ∙ ap (λ (x : Wall). taken x 0 0) next ∙ sym (ap taken-of e ∙ taken-on _ (held s) _ _ (n .0) (n .1)),
+      rw (e, left-on _ (held s) _ _ (n .0)) (worked-row (p .plan .ensures) (t .if2 .left)),
     )
 
 pub row-spec : {M : Type 1} → statement M
@@ -152,10 +166,12 @@ row-spec =
     refused-requires-2
     same-length
     same-length-2
+    same-length-3
     returns-2
     size-requires
     after-requires
     went-on-requires
-    same-length-3
     same-length-4
+    same-length-5
+    same-length-6
     returns-3)

@@ -1,11 +1,12 @@
 -- `steps::start` meets its contract. Assumes nothing.
 use mathlib.Core.Path.{_≡_, refl, sym, _∙_, ap}
-use mathlib.Core.List.{[]}
+use mathlib.Core.List.{List, []}
 use Prim.Native.Nat.{ℕ, _+_, _*_, _≤_}
 use lib.ListN.{length}
 use native.Mathlib.Omega.{arith}
 use Rattle.settings.proofs.Laws.Settings.{limits}
 use Rattle.fields.specs.Field.{field-refusal}
+use Rattle.row.specs.Row.{pulses}
 use Rattle.steps.specs.Number.{start-number}
 use Rattle.steps.specs.Shown.{number-shown, offset-shown}
 use Rattle.steps.specs.Step.{Stepped}
@@ -47,7 +48,8 @@ returns c =
     let n = t .before .start-number .result in
     let e : (row : _) → _ = λ row. start-away row (a .part .now) (a .place .settings) (a .place .offset) n (t .before .start-number .ensures) (t .if1 .taken) in (
       λ row. c .refused .ensures ∙ sym (ap taken-of (e row) ∙ taken-away row row n (a .place .offset)),
-      λ row. sym (ap (λ (o : Stepped). row-left o (a .next .now)) (e row) ∙ left-away row (a .next .now) n (a .place .offset) (t .if1 .taken)),
+      λ row. let held = pulses (a .next .now) (row .letters) in
+          sym (ap (λ (o : Stepped). row-left o held) (e row) ∙ left-away row held n (a .place .offset) (t .if1 .taken)),
     )
 
 mul-size : tie.Need-mul-size
@@ -89,8 +91,9 @@ returns-2 c =
     let a = s .args in
     let w = fit s .long in
     let e : (row : _) → _ = λ row. start-goes row (a .part .now) (a .place .settings) (a .place .offset) (sym (n .before .start-number .ensures) ∙ n .if1 .left) in (
-      λ row. c .went-on .ensures ∙ ap (λ (n : ℕ). taken (Row (place (a .place .settings) 0 (a .place .offset + (3 + 8 * n)))) 0 0) w ∙ sym (ap taken-of (e row) ∙ taken-on _ (a .next .now) _ [] refl refl),
-      λ row. rw (← w, ← b .body .ensures) (t .times .ensures) ∙ sym (ap (λ (o : Stepped). row-left o (a .next .now)) (e row) ∙ left-on _ (a .next .now) _ [] refl),
+      λ row. c .went-on .ensures ∙ ap (λ (n : ℕ). taken (Row (place (a .place .settings) 0 (a .place .offset + (3 + 8 * n)))) 0 0) w ∙ sym (ap taken-of (e row) ∙ taken-on _ row _ [] refl refl),
+      λ row. let held = pulses (a .next .now) (row .letters) in
+          ap (λ (ts : List ℕ). pulses ts (row .letters)) (rw (← w, ← b .body .ensures) (t .times .ensures)) ∙ sym (ap (λ (o : Stepped). row-left o held) (e row) ∙ left-on _ held _ [] refl),
     )
 
 pub start-spec : {M : Type 1} → statement M

@@ -10,6 +10,12 @@ mul-times c = search needs
 slice-write-times : tie.Need-slice-write-times
 slice-write-times c = search needs
 
+byte-requires : tie.Need-byte-requires
+byte-requires c κs = search needs
+
+slice-write-letters : tie.Need-slice-write-letters
+slice-write-letters c = search needs
+
 add-next : tie.Need-add-next
 add-next c = search needs
 
@@ -22,8 +28,11 @@ larger-requires c κs = search needs
 same-length : tie.Need-same-length
 same-length c = search needs
 
+same-length-2 : tie.Need-same-length-2
+same-length-2 c = search needs
+
 returns : tie.Need-returns
-returns c = (refl, rw (c .before .smaller .ensures, c .larger .ensures))
+returns c = (refl, (rw (c .before .before .byte .ensures), rw (c .before .smaller .ensures, c .larger .ensures)))
 
 pub put-spec : {M : Type 1} → statement M
 put-spec =
@@ -31,8 +40,11 @@ put-spec =
     (tie.spec
     mul-times
     slice-write-times
+    byte-requires
+    slice-write-letters
     add-next
     smaller-requires
     larger-requires
     same-length
+    same-length-2
     returns)
