@@ -86,7 +86,7 @@ returns c =
     let t = taken (c .before .before .before .before) in
     let w = known t in
     let s = start w in
-    advanced (s .args .state) (s .args .input .now) (lent s) (s .args .output .now) (s .pre .2) (s .pre .5) _ _
+    advanced (s .args .state) (s .args .input .now) (lent s) (s .args .output .now) (s .pre .2) (s .pre .5) (w .before .part-end .result) (w .width .result)
     (w .before .part-end .ensures) (w .width .ensures .0) (wide w) (letters-wide w) _ _ _ _ _ (t .step-by .ensures) (c .before .before .went .given .1) (c .stepped .ensures)
     (t .step-by .kept .1 .1 .1 .1 .0) (t .step-by .kept .1 .1 .1 .1 .1 .0)
 
@@ -108,7 +108,7 @@ returns-2 c =
     let w = known t in
     let s = start w in
     absurd
-    (never-unfit (s .args .state) (s .args .input .now) (lent s) (s .args .output .now) (s .pre .2) (s .pre .5) _ _
+    (never-unfit (s .args .state) (s .args .input .now) (lent s) (s .args .output .now) (s .pre .2) (s .pre .5) (w .before .part-end .result) (w .width .result)
     (w .before .part-end .ensures) (w .width .ensures .0) (wide w) (letters-wide w) _ _ _ (t .step-by .ensures) (c .enum-told .given .1))
 
 pub advance-spec : {M : Type 1} → statement M
