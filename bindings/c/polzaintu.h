@@ -1,11 +1,12 @@
 /* The pulse planner for C: link libpolzaintu.a, which `rt staticlib polzaintu` writes for x86-64.
  *
  * Every function answers every input and keeps nothing between calls. An answer of uint32_t is 0,
- * or the number under which the call is turned away: the lowest that applies, and what was lent to
- * the call holds what it held. A wall file keeps an order of its own, and stays turned away
- * (polzaintu_wall_step). Each function lists its numbers; polzaintu_words has the words of each,
- * and docs/NUMBERS.md a table. Times, delays, stamps and gaps are in ticks; W, R, d, u, A, r and h
- * are the settings. A clause of docs/REQUIREMENTS.md is named as in §4.2.
+ * or the number under which the call is turned away: the lowest that applies, where 53 stands
+ * between 25 and 26, and what was lent to the call holds what it held. A wall file keeps an order
+ * of its own, and stays turned away (polzaintu_wall_step). Each function lists its numbers;
+ * polzaintu_words has the words of each, and docs/NUMBERS.md a table. Times, delays, stamps and
+ * gaps are in ticks; W, R, d, u, A, r and h are the settings. A clause of docs/REQUIREMENTS.md is
+ * named as in §4.2.
  *
  * What a caller owes:
  * - A pointer that comes with a count may be NULL where the count is 0, as an empty std::vector
@@ -44,7 +45,7 @@ extern "C" {
 
 /* The version of this header; polzaintu_version answers that of the archive. */
 #define POLZAINTU_VERSION_MAJOR 0
-#define POLZAINTU_VERSION_MINOR 4
+#define POLZAINTU_VERSION_MINOR 5
 #define POLZAINTU_VERSION_PATCH 0
 
 /* The version as one number, which grows from version to version. */
@@ -63,7 +64,7 @@ POLZAINTU_ANSWER uint32_t polzaintu_version(void);
 /* The most tiles of a row, the most bytes that a step of a wall file is to be given, and the most
  * waves of a seam that are held. */
 #define POLZAINTU_WIDTH_MOST 256
-#define POLZAINTU_DUE_MOST 6710
+#define POLZAINTU_DUE_MOST 7734
 #define POLZAINTU_WAVES_MOST 64
 
 /* The words of an answer. */
@@ -125,6 +126,8 @@ POLZAINTU_ANSWER static inline const char *polzaintu_words(uint32_t number) {
         return "n is outside 1 to 64";
     case 52:
         return "no closed wave is held";
+    case 53:
+        return "the phase of a tile is greater than 999,999";
     /* numbers.tsv: end */
     case POLZAINTU_UNFIT:
         return "what was lent does not fit";
@@ -186,7 +189,7 @@ POLZAINTU_ANSWER uint32_t polzaintu_tile(const polzaintu_settings *settings,
                                          const polzaintu_stamps *stamps,
                                          polzaintu_forwarded *answer);
 
-/* ---- A row: §7.1 to §7.6, its letters §E3.4, its marks and links by place §17.4 ----
+/* ---- A row: §7.1 to §7.6, letters §E3.4, phases §E4.2, marks and links by place §17.4 ----
  *
  * Columns c and c + 1 are neighbours; so are columns 0 and 2, and columns W - 3 and W - 1. A tile's
  * senders are the tiles of the row before in its own column and that column's neighbours: four for
@@ -208,17 +211,23 @@ typedef struct {
  *   before  the W times of the row before, up to 2^40 - 1; a faulty tile's is not read
  *   marks   the fault marks of the row before
  *   drifts  the W drifts of the row's tiles, 0 to r
+ *   phases  the W phases of the row's tiles, 0 to 999,999: how far into a reading each clock
+ *           starts, in millionths
  *   links   the link values: of a correct sender the delay, d - u to d; of a faulty one the tick
  *           at which its pulse arrives, up to 2^40 - 1, or POLZAINTU_SILENT
  *   times   the W times to be written
  *   letters the W letters to be written, of each tile the one that polzaintu_tile answers; a tile
  *           that the next row's marks say is faulty has one too
  *
+ * A clock of drift p and phase q reads (t * (1,000,000 + p) + q) / 1,000,000 at tick t, rounded
+ * down.
+ *
  * Answers 0; 1 to 9; 21 for a length, 22 and 24 for the marks, 23 for a time before, 25 for a
- * drift, 26 for a link value. */
+ * drift, 53 for a phase, which comes after 25 and before 26, 26 for a link value. */
 POLZAINTU_ANSWER uint32_t polzaintu_row(const polzaintu_settings *settings, const uint64_t *before,
                                         size_t before_len, const uint8_t *marks, size_t marks_len,
                                         const uint32_t *drifts, size_t drifts_len,
+                                        const uint32_t *phases, size_t phases_len,
                                         const uint64_t *links, size_t links_len, uint64_t *times,
                                         size_t times_len, uint8_t *letters, size_t letters_len,
                                         polzaintu_ends *ends);
@@ -441,8 +450,8 @@ POLZAINTU_ANSWER size_t polzaintu_wall_width(const polzaintu_wall *wall);
  * Answers 0 where the part is taken and *wall has moved on. At stage 4 nothing is taken and nothing
  * changes.
  *
- * Answers 1 to 9, 22 to 26, or 41 to 45 where the file is turned away. Then *wall is at stage 5,
- * *offset is the byte offset that wallrun prints, and next and letters hold what they held. 23
+ * Answers 1 to 9, 22 to 26, 41 to 45, or 53 where the file is turned away. Then *wall is at stage
+ * 5, *offset is the byte offset that wallrun prints, and next and letters hold what they held. 23
  * can't come where *wall and `row` are as the steps of one file left them. Of each field the header
  * is looked at first, then whether the body is there, then what it holds; the contents of tags 3
  * and 4 are looked at together.

@@ -1,4 +1,4 @@
-//! The wall file (§9.1 to §9.8): its fields in their order, refusals 41 to 45, and the rows it describes.
+//! The wall file (§9.1 to §9.8, §E4.4): its fields in their order, refusals 41 to 45, and the rows it describes.
 
 use std::fmt;
 
@@ -116,6 +116,8 @@ pub struct ShownRow<'a> {
     pub times: &'a [u64],
     /// Its W letters; row 0 has none.
     pub letters: &'a [u8],
+    /// The W phases of its clocks; row 0 has none.
+    pub phases: &'a [u32],
     /// Its marks, one bit a column.
     pub marks: &'a [u8],
     /// The link values of the next row; row R has no next.
@@ -146,13 +148,14 @@ pub fn walk<E>(
     let mut fields = Fields { file, at: 0 };
     let wall = take_settings(&mut fields)?;
     let mut times = take_start(&mut fields, &wall)?;
-    let mut letters = Vec::new();
+    let (mut letters, mut phases) = (Vec::new(), Vec::new());
     for number in 0..wall.settings().rows() {
         let row = take_row(&mut fields, &wall)?;
         let lent = Lent {
             before: &times,
             marks: row.marks,
             drifts: &row.drifts,
+            phases: &row.phases,
             links: &row.links,
         };
         let (mut next, mut next_letters) = (vec![0; times.len()], vec![0; times.len()]);
@@ -163,11 +166,12 @@ pub fn walk<E>(
             number,
             times: &times,
             letters: &letters,
+            phases: &phases,
             marks: row.marks,
             links: &row.links,
         };
         show(shown).map_err(Stop::Shown)?;
-        (times, letters) = (next, next_letters);
+        (times, letters, phases) = (next, next_letters, row.phases);
     }
     fields.end()?;
     let shown = ShownRow {
@@ -175,6 +179,7 @@ pub fn walk<E>(
         number: wall.settings().rows(),
         times: &times,
         letters: &letters,
+        phases: &phases,
         marks: &vec![0; wall.shape().mark_bytes()],
         links: &[],
     };
@@ -216,26 +221,29 @@ struct RowFields<'a> {
     tag_4: Field<'a>,
     marks: &'a [u8],
     drifts: Vec<u16>,
+    phases: Vec<u32>,
     links: Vec<u64>,
 }
 
-/// Tag 3: the marks. Tag 4: tile by tile the drift in 2 bytes, then its link values in 8 bytes each.
+/// Tag 3: the marks. Tag 4: tile by tile the drift in 2 bytes and the phase in 4, then its link values in 8 bytes each.
 fn take_row<'a>(fields: &mut Fields<'a>, wall: &Wall) -> Result<RowFields<'a>, FileRefused> {
     let shape = wall.shape();
     let w = shape.columns();
     let tag_3 = fields.take(3, shape.mark_bytes())?;
-    let tag_4 = fields.take(4, 26 * w + 16)?;
+    let tag_4 = fields.take(4, 30 * w + 16)?;
     let mut values = Values(tag_4.body);
-    let mut drifts = Vec::with_capacity(w);
+    let (mut drifts, mut phases) = (Vec::with_capacity(w), Vec::with_capacity(w));
     let mut links = Vec::with_capacity(shape.links());
     for tile in 0..w {
         drifts.push(values.u16());
+        phases.push(values.u32());
         links.extend(shape.predecessors(tile).iter().map(|_| values.u64()));
     }
     Ok(RowFields {
         tag_4,
         marks: tag_3.body,
         drifts,
+        phases,
         links,
     })
 }

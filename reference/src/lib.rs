@@ -29,6 +29,9 @@ pub type Tick = i128;
 /// The value 2^64 - 1, by which a link or a stamp says that it is silent.
 pub const SILENT: u64 = u64::MAX;
 
+/// The largest phase of a clock, in millionths of a reading.
+pub const LARGEST_PHASE: u32 = 999_999;
+
 /// The latest row 0 time, 2^39 - 1.
 pub const LATEST_START: u64 = (1 << 39) - 1;
 

@@ -1,11 +1,11 @@
-//! One row (§7.1 to §7.6, §E3.4) from the row before, with refusals 21 to 26.
+//! One row (§7.1 to §7.6, §E3.4, §E4.2, §E4.3) from the row before, with refusals 21 to 26 and 53.
 
-use crate::clock::{first_tick, reading};
+use crate::clock::Clock;
 use crate::rule::Answer;
 use crate::settings::Settings;
 use crate::shape::{is_marked, Shape};
 use crate::tile::{tile, Stamps};
-use crate::{refuse_if, Refused, Tick, LATEST_ARRIVAL, SILENT};
+use crate::{refuse_if, Refused, Tick, LARGEST_PHASE, LATEST_ARRIVAL, SILENT};
 
 /// What a row call is lent to read.
 #[derive(Clone, Copy, Debug)]
@@ -16,9 +16,21 @@ pub struct Lent<'a> {
     pub marks: &'a [u8],
     /// W drifts.
     pub drifts: &'a [u16],
+    /// W phases.
+    pub phases: &'a [u32],
     /// The link values of each tile, its senders ascending: the link's delay where the sender is correct,
     /// an arrival or silence where it is faulty.
     pub links: &'a [u64],
+}
+
+impl Lent<'_> {
+    /// The clock of the tile in `column`.
+    fn clock(&self, column: usize) -> Clock {
+        Clock {
+            drift: self.drifts[column].into(),
+            phase: self.phases[column].into(),
+        }
+    }
 }
 
 /// The earliest and the latest time of a written row, over all W tiles.
@@ -55,13 +67,13 @@ impl Wall {
         &self.shape
     }
 
-    /// The row operation: writes the row's times and letters, W of each, or answers the lowest number that
+    /// The row operation: writes the row's times and letters, W of each, or answers the first number that
     /// applies over the whole row and leaves both as they were.
     pub fn row(&self, lent: &Lent, times: &mut [u64], letters: &mut [u8]) -> Result<Ends, Refused> {
         self.check(lent, times.len(), letters.len())?;
         for column in 0..self.shape.columns() {
             let answer = self.answer(lent, column);
-            times[column] = self.time(&answer, lent.drifts[column]);
+            times[column] = self.time(&answer, &lent.clock(column));
             letters[column] = answer.letter.byte();
         }
         Ok(Ends {
@@ -70,8 +82,8 @@ impl Wall {
         })
     }
 
-    /// The row's refusals, each judged over the whole row before the next; `times` and `letters` are the lengths
-    /// of what is lent to write.
+    /// The row's refusals, each judged over the whole row before the next: 53 after 25 and before 26, the others as
+    /// they rise. `times` and `letters` are the lengths of what is lent to write.
     fn check(&self, lent: &Lent, times: usize, letters: usize) -> Result<(), Refused> {
         let w = self.shape.columns();
         self.settings.check()?;
@@ -90,6 +102,9 @@ impl Wall {
         let over_limit = (lent.drifts.iter()).any(|&p| Tick::from(p) > self.settings.r());
         refuse_if(over_limit, 25)?;
 
+        let a_reading_or_more = lent.phases.iter().any(|&q| q > LARGEST_PHASE);
+        refuse_if(a_reading_or_more, 53)?;
+
         let mut links = (0..w).flat_map(|c| self.shape.links_of(c));
         let not_admitted = links.any(|(sender, at)| !self.link_is_admitted(lent, sender, at));
         refuse_if(not_admitted, 26)
@@ -100,6 +115,7 @@ impl Wall {
         lent.before.len() == w
             && lent.marks.len() == self.shape.mark_bytes()
             && lent.drifts.len() == w
+            && lent.phases.len() == w
             && lent.links.len() == self.shape.links()
             && times == w
             && letters == w
@@ -131,9 +147,9 @@ impl Wall {
         tile(&self.settings, &stamps).expect("an accepted row admits each tile")
     }
 
-    /// When a tile of this drift pulses: at the first tick at which its clock reads P + A or more.
-    fn time(&self, answer: &Answer, drift: u16) -> u64 {
-        let t = first_tick(answer.p + self.settings.a(), drift.into());
+    /// When a tile of this clock pulses: at the first tick at which it reads P + A or more.
+    fn time(&self, answer: &Answer, clock: &Clock) -> u64 {
+        let t = clock.first_tick(answer.p + self.settings.a());
         u64::try_from(t).expect("a time fits 64 bits")
     }
 
@@ -144,9 +160,10 @@ impl Wall {
             neighbours: [None; 3],
             count: 0,
         };
+        let clock = lent.clock(column);
         for (sender, at) in self.shape.links_of(column) {
             let arrival = arrival(lent, sender, lent.links[at]);
-            let stamp = arrival.map(|t| reading(t, lent.drifts[column].into()));
+            let stamp = arrival.map(|t| clock.reading(t));
             if sender == column {
                 stamps.own = stamp;
             } else {
@@ -177,12 +194,13 @@ mod tests {
 
     const W: usize = 11;
 
-    /// A row of eleven columns, all at 1000, drifts 0, links 100, nobody marked.
+    /// A row of eleven columns, all at 1000, drifts and phases 0, links 100, nobody marked.
     struct Case {
         wall: Wall,
         before: Vec<u64>,
         marks: Vec<u8>,
         drifts: Vec<u16>,
+        phases: Vec<u32>,
         links: Vec<u64>,
     }
 
@@ -199,6 +217,7 @@ mod tests {
                 before: vec![1000; W],
                 marks: vec![0; 2],
                 drifts: vec![0; W],
+                phases: vec![0; W],
                 links: vec![100; wall.shape().links()],
                 wall,
             }
@@ -221,6 +240,7 @@ mod tests {
                 before: &self.before,
                 marks: &self.marks,
                 drifts: &self.drifts,
+                phases: &self.phases,
                 links: &self.links,
             }
         }
@@ -267,9 +287,71 @@ mod tests {
         assert_eq!(case.run().unwrap()[4], 1500);
     }
 
+    /// When a tile of drift 10,000 pulses that hears all at `arrival`; A is 400.
+    fn pulse(arrival: u64, phase: u32) -> u64 {
+        let mut case = Case::new();
+        case.before.fill(arrival - 100);
+        case.drifts[5] = 10_000;
+        case.phases[5] = phase;
+        case.run().unwrap()[5]
+    }
+
+    #[test]
+    fn a_phase_counts_in_stamps_and_in_the_pulse() {
+        // 1100 reads 1111 at every phase; 1496 lacks 0.04 of 1511.
+        for (phase, time) in [(0, 1497), (39_999, 1497), (40_000, 1496), (999_999, 1496)] {
+            assert_eq!(pulse(1100, phase), time, "phase {phase}");
+        }
+        // 1099 lacks 0.01 of 1110. From there on 1510 is waited for, in place of 1509; 1495 lacks 0.05 of it.
+        for (phase, time) in [
+            (0, 1495),
+            (9_999, 1495),
+            (10_000, 1496),
+            (49_999, 1496),
+            (50_000, 1495),
+            (999_999, 1495),
+        ] {
+            assert_eq!(pulse(1099, phase), time, "phase {phase}");
+        }
+    }
+
+    #[test]
+    fn two_tiles_alike_but_for_the_phase_pulse_a_tick_apart() {
+        let mut case = Case::new();
+        case.drifts.fill(10_000);
+        for column in (1..W).step_by(2) {
+            case.phases[column] = 40_000;
+        }
+        let due: Vec<u64> = (0..W as u64).map(|column| 1497 - column % 2).collect();
+        assert_eq!(case.run(), Ok(due));
+    }
+
+    #[test]
+    fn without_drift_no_phase_is_felt() {
+        for phase in [1, 500_000, 999_999] {
+            let mut case = Case::new();
+            case.before[5] = 1080;
+            let due = case.both();
+            case.phases.fill(phase);
+            assert_eq!(case.both(), due);
+        }
+    }
+
+    /// Own at 1115 lacks 0.85 of a reading of 1127, which is h after the neighbours' 1111.
+    #[test]
+    fn a_phase_can_decide_the_letter() {
+        for (phase, letter) in [(0, 'k'), (849_999, 'k'), (850_000, 'm'), (999_999, 'm')] {
+            let mut case = Case::new();
+            case.before[5] = 1015;
+            case.drifts[5] = 10_000;
+            case.phases[5] = phase;
+            assert_eq!(case.letters().chars().nth(5), Some(letter), "phase {phase}");
+        }
+    }
+
     #[test]
     fn lengths() {
-        for lent in 0..4 {
+        for lent in 0..5 {
             for longer in [false, true] {
                 let mut case = Case::new();
                 case.before[0] = u64::MAX; // 23, after 21
@@ -281,6 +363,7 @@ mod tests {
                     0 => resize(&mut case.before, 0, longer),
                     1 => resize(&mut case.marks, 0xff, longer),
                     2 => resize(&mut case.drifts, 0, longer),
+                    3 => resize(&mut case.phases, 0, longer),
                     _ => resize(&mut case.links, 0, longer),
                 }
                 assert_eq!(case.run(), Err(21));
@@ -343,10 +426,44 @@ mod tests {
     }
 
     #[test]
-    fn drifts_and_links_over_the_whole_row() {
+    fn a_phase_at_and_past_its_limit() {
+        for column in 0..W {
+            for (phase, taken) in [
+                (999_999, true),
+                (1_000_000, false),
+                (1_000_001, false),
+                (1 << 31, false),
+                (u32::MAX, false),
+            ] {
+                let mut case = Case::new();
+                case.phases[column] = phase;
+                let number = case.run().err();
+                assert_eq!(number, (!taken).then_some(53), "{phase} in {column}");
+            }
+        }
+    }
+
+    #[test]
+    fn a_53_comes_after_25_and_before_26_whatever_the_columns() {
+        for phase in [0, W - 1] {
+            for other in [0, W - 1] {
+                let mut case = Case::new();
+                case.phases[phase] = 1_000_000;
+                case.link(other, other, 101);
+                assert_eq!(case.run(), Err(53), "{phase}, 26 in {other}");
+                case.drifts[other] = 10_001;
+                assert_eq!(case.run(), Err(25), "{phase}, 25 in {other}");
+            }
+        }
+    }
+
+    #[test]
+    fn drifts_phases_and_links_over_the_whole_row() {
         let mut case = Case::new();
         case.link(0, 0, 101);
         assert_eq!(case.run(), Err(26));
+        case.phases[W - 1] = 1_000_000;
+        assert_eq!(case.run(), Err(53), "before the 26 in column 0");
         case.drifts[W - 1] = 10_001;
         assert_eq!(case.run(), Err(25), "before the 26 in column 0");
         case.mark(5);
@@ -414,6 +531,11 @@ mod tests {
         assert_eq!(stamps.own, Some(1111));
         assert_eq!(stamps.neighbours, [Some(1111), Some(2020), None]);
         assert_eq!(stamps.count, 2);
+        case.phases[4] = 999_999;
+        case.link(4, 5, 2_001);
+        let stamps = case.wall.stamps(&case.lent(), 4);
+        assert_eq!(stamps.own, Some(1111));
+        assert_eq!(stamps.neighbours, [Some(1111), Some(2022), None]);
     }
 
     #[test]

@@ -106,7 +106,7 @@ mod tests {
         for w in 6..=256 {
             let shape = Shape::new(w);
             assert_eq!(shape.links(), 3 * w + 2);
-            assert_eq!(2 * w + 8 * shape.links(), 26 * w + 16);
+            assert_eq!((2 + 4) * w + 8 * shape.links(), 30 * w + 16);
             assert_eq!(shape.seams().len(), w + 1);
             assert!(shape.seams().is_sorted());
             assert!(shape.seams().contains(&(0, 2)));

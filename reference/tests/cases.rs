@@ -9,8 +9,8 @@ use wall_reference::cases::{self, Case};
 use wall_reference::print::wallrun;
 
 /// The numbers that a file can be turned away with, and 0 for none.
-const NUMBERS: [u8; 19] = [
-    0, 1, 2, 3, 4, 5, 6, 7, 8, 9, 22, 24, 25, 26, 41, 42, 43, 44, 45,
+const NUMBERS: [u8; 20] = [
+    0, 1, 2, 3, 4, 5, 6, 7, 8, 9, 22, 24, 25, 26, 41, 42, 43, 44, 45, 53,
 ];
 
 fn text(file: &[u8]) -> String {
@@ -58,22 +58,34 @@ fn cases_come_out_as_their_names_say() {
         ("tag-2-cut-before", 43, 27),
         ("tag-3-cut-after-2-bytes", 43, 78),
         ("tag-4-cut-in-body", 43, 82),
-        ("last-tag-3-cut-after-3-bytes", 43, 257),
-        ("last-tag-4-cut-one-short", 43, 261),
+        ("last-tag-3-cut-after-3-bytes", 43, 281),
+        ("last-tag-4-cut-one-short", 43, 285),
         ("tag-2-wrong-tag-cut-after-2", 43, 27),
         ("tag-2-wrong-tag-no-body", 41, 27),
         ("tag-4-wrong-length-no-body", 42, 82),
-        ("last-tag-4-wrong-tag-and-length", 41, 261),
+        ("last-tag-4-wrong-tag-and-length", 41, 285),
         ("stray-mark", 22, 82),
         ("stray-mark-no-tag-4", 43, 82),
         ("stray-mark-tag-4-wrong", 41, 82),
         ("stray-mark-tag-4-length-wrong", 42, 82),
-        ("1-byte-more", 44, 436),
-        ("last-row-refused-and-a-byte-more", 24, 261),
+        ("old-form", 42, 82),
+        ("old-form-second-row", 42, 285),
+        ("1-byte-more", 44, 484),
+        ("last-row-refused-and-a-byte-more", 24, 285),
         ("settings-8-before-9", 8, 0),
         ("order-24-25-26", 24, 82),
+        ("order-53-26", 53, 82),
+        ("order-53-last-26-first", 53, 82),
+        ("order-25-53", 25, 82),
+        ("order-25-last-53-first", 25, 82),
+        ("order-25-53-26", 25, 82),
         ("order-45-24", 45, 27),
         ("drift-at-limit", 0, 0),
+        ("phase-over-first", 53, 82),
+        ("phase-over-last", 53, 82),
+        ("phase-over-second-row", 53, 285),
+        ("phase-4294967295", 53, 82),
+        ("phase-at-limit", 0, 0),
         ("arrival-latest", 0, 0),
         ("start-all-latest", 0, 0),
         ("w-256", 0, 0),
@@ -115,6 +127,38 @@ fn letters_at_their_borders() {
         assert_eq!((&letters[2..3], &letters[54..55]), ("m", "b"));
     }
     assert_eq!(letters("letters-silence"), "lkkklebklkmklkeklkekl");
+    // A phase decides whether D is 0.
+    assert_eq!(letters("letters-by-phase"), "kkkkkkkkmkkkk");
+}
+
+/// The times of row 1, by column.
+fn times(name: &str) -> Vec<u64> {
+    let text = text(&named(name).file);
+    let tiles = text.lines().filter(|line| line.starts_with("t 1 "));
+    tiles
+        .map(|line| line.split(' ').nth(3).unwrap().parse().unwrap())
+        .collect()
+}
+
+#[test]
+fn phases_move_pulses() {
+    for (name, due) in [
+        ("phase-at-limit", [1497, 1497, 1497, 1496, 1497, 1497]),
+        ("phase-all-at-limit", [1496; 6]),
+        (
+            "phase-all-at-limit-drift-0",
+            [1500, 1500, 1500, 1536, 1500, 1500],
+        ),
+        ("phase-tick-apart", [1497, 1496, 1497, 1496, 1497, 1496]),
+        ("phase-by-column", [1500, 1500, 1499, 1499, 1500, 1500]),
+    ] {
+        assert_eq!(times(name), due, "{name}");
+    }
+    for name in ["w-6-edges", "w-9-edges", "w-256"] {
+        let phased = text(&named(&format!("{name}-phases")).file);
+        assert!(!phased.contains("refused"));
+        assert_ne!(phased, text(&named(name).file));
+    }
 }
 
 #[test]
@@ -145,7 +189,7 @@ fn wallcases_writes_them_all() {
     }
     assert_eq!(fs::read_to_string(folder.join("args")).unwrap(), names);
     assert_eq!(fs::read_to_string(folder.join("stdout")).unwrap(), printed);
-    assert!(size < 400_000, "{size} bytes of wall files");
+    assert!(size < 450_000, "{size} bytes of wall files");
     let files = fs::read_dir(folder.join("data")).unwrap().count();
     assert_eq!(files, cases::all().len());
 }

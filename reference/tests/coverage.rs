@@ -1,11 +1,11 @@
 //! That the generated walls reach what they are made to reach: every number, and every case of the
-//! rule with its letter and the borders between the cases.
+//! rule with its letter and the borders between the cases, and phases at which something changes.
 
 use std::collections::{BTreeMap, BTreeSet};
 
 use wall_reference::file::{walk, FileRefused, ShownRow, Stop};
 use wall_reference::generate::{self, rng::Rng};
-use wall_reference::row::Wall;
+use wall_reference::row::{Lent, Wall};
 use wall_reference::rule::{self, Letter};
 use wall_reference::settings::Settings;
 use wall_reference::shape::is_marked;
@@ -31,7 +31,7 @@ fn the_seeds_reach_every_number_a_file_can_meet() {
     }
     let numbers: Vec<u8> = reached.keys().copied().collect();
     let due = [
-        0, 1, 2, 3, 4, 5, 6, 7, 8, 9, 22, 24, 25, 26, 41, 42, 43, 44, 45,
+        0, 1, 2, 3, 4, 5, 6, 7, 8, 9, 22, 24, 25, 26, 41, 42, 43, 44, 45, 53,
     ];
     assert_eq!(numbers, due, "{reached:?}");
     let accepted = reached[&0];
@@ -170,4 +170,49 @@ fn the_seeds_reach_every_case_and_border_of_the_rule() {
     assert!(reached.values().all(|&count| count >= 3), "{reached:#?}");
     assert_eq!(lettered.len(), Letter::ALL.len());
     assert!(lettered.values().all(|&n| n >= 10_000), "{lettered:?}");
+}
+
+/// Counts what changes in a row where its clocks have these phases instead.
+fn note_changes(wall: &Wall, lent: &Lent, phases: &[u32], changes: &mut BTreeMap<&str, u64>) {
+    let w = phases.len();
+    let other = Lent { phases, ..*lent };
+    let (mut times, mut letters) = (vec![0; w], vec![0; w]);
+    let (mut other_times, mut other_letters) = (vec![0; w], vec![0; w]);
+    wall.row(lent, &mut times, &mut letters).unwrap();
+    wall.row(&other, &mut other_times, &mut other_letters)
+        .unwrap();
+    let mut note = |name, holds: bool| *changes.entry(name).or_default() += u64::from(holds);
+    for column in 0..w {
+        let stamps = [lent, &other].map(|lent| wall.stamps(lent, column));
+        note("stamp", stamps[0] != stamps[1]);
+        note("pulse later", times[column] < other_times[column]);
+        note("pulse earlier", times[column] > other_times[column]);
+        note("letter", letters[column] != other_letters[column]);
+    }
+}
+
+#[test]
+fn the_seeds_reach_phases_that_count_to_a_millionth() {
+    let mut without: BTreeMap<&str, u64> = BTreeMap::new();
+    let mut one_less: BTreeMap<&str, u64> = BTreeMap::new();
+    for seed in 0..1_000 {
+        let description = generate::sound_wall(&mut Rng::new(seed));
+        let wall = Wall::new(Settings::new(description.numbers).unwrap()).unwrap();
+        let mut before = description.start.clone();
+        let w = before.len();
+        for row in &description.rows {
+            let links = row.flat_links();
+            let lent = row.lent(&before, &links);
+            let less: Vec<u32> = row.phases.iter().map(|q| q.saturating_sub(1)).collect();
+            note_changes(&wall, &lent, &vec![0; w], &mut without);
+            note_changes(&wall, &lent, &less, &mut one_less);
+            let (mut times, mut letters) = (vec![0; w], vec![0; w]);
+            wall.row(&lent, &mut times, &mut letters).unwrap();
+            before = times;
+        }
+    }
+    for changes in [without, one_less] {
+        assert_eq!(changes.len(), 4);
+        assert!(changes.values().all(|&count| count >= 100), "{changes:?}");
+    }
 }

@@ -10,7 +10,7 @@ use wall_reference::generate::kind::{kind, Kind};
 use wall_reference::generate::{self, rng::Rng};
 use wall_reference::settings::Numbers;
 use wall_reference::shape::{is_marked, Shape};
-use wall_reference::{LATEST_ARRIVAL, LATEST_START, SILENT};
+use wall_reference::{LARGEST_PHASE, LATEST_ARRIVAL, LATEST_START, SILENT};
 
 const SEEDS: u64 = 4_000;
 
@@ -104,6 +104,44 @@ fn settings_are_refused_just_past_every_limit() {
     }
 }
 
+/// The phases of the tag 4 at an offset, in a file of W columns.
+fn phases(file: &[u8], at: usize, w: usize) -> Vec<u32> {
+    let shape = Shape::new(w);
+    let mut body = &file[at + 3..];
+    let mut phases = Vec::new();
+    for tile in 0..w {
+        phases.push(u32::from_be_bytes(body[2..6].try_into().unwrap()));
+        body = &body[6 + 8 * shape.predecessors(tile).len()..];
+    }
+    phases
+}
+
+#[test]
+fn phases_are_refused_just_past_the_limit_and_far_from_it_in_every_place() {
+    let mut met = BTreeSet::new();
+    for seed in 0..SEEDS {
+        let file = generate::file(seed);
+        if let Some(FileRefused { number: 53, at }) = walked(&file, |_| ()) {
+            let w = numbers(&file).columns as usize;
+            for (column, phase) in phases(&file, at, w).into_iter().enumerate() {
+                let place = match column {
+                    0 => "first",
+                    _ if column == w - 1 => "last",
+                    _ => "between",
+                };
+                let size = match phase {
+                    0..=LARGEST_PHASE => continue,
+                    1_000_000 => "just past",
+                    u32::MAX => "the most",
+                    _ => "far past",
+                };
+                met.insert((place, size));
+            }
+        }
+    }
+    assert_eq!(met.len(), 9, "{met:?}");
+}
+
 /// Names each limit at which a value of an accepted wall stands.
 fn values_at_limits(wall: &Description, met: &mut BTreeMap<&str, u32>) {
     let (n, w) = (wall.numbers, wall.start.len());
@@ -119,6 +157,8 @@ fn values_at_limits(wall: &Description, met: &mut BTreeMap<&str, u32>) {
             let (drift, limit) = (u32::from(row.drifts[tile]), n.drift_limit);
             note("drift 0 below r", drift == 0 && limit > 0);
             note("drift r above 0", drift == limit && limit > 0);
+            note("phase 0", row.phases[tile] == 0);
+            note("phase 999,999", row.phases[tile] == LARGEST_PHASE);
             for (&sender, &value) in shape.predecessors(tile).iter().zip(&row.links[tile]) {
                 let faulty = is_marked(&row.marks, sender);
                 let uncertain = !faulty && n.uncertainty > 0;
@@ -138,7 +178,7 @@ fn accepted_walls_hold_every_value_at_its_limits() {
     for seed in 0..1_000 {
         values_at_limits(&generate::sound_wall(&mut Rng::new(seed)), &mut met);
     }
-    assert_eq!(met.len(), 9);
+    assert_eq!(met.len(), 11);
     assert!(met.values().all(|&count| count >= 100), "{met:#?}");
 }
 
@@ -172,7 +212,7 @@ fn tag_due(w: usize, at: usize) -> u8 {
     match at {
         0 => 1,
         _ if at == start => 2,
-        _ if (at - row_1).is_multiple_of(3 + marks + 3 + 26 * w + 16) => 3,
+        _ if (at - row_1).is_multiple_of(3 + marks + 3 + 30 * w + 16) => 3,
         _ => 4,
     }
 }

@@ -1,4 +1,4 @@
-//! The wall file: the wall of §14.4, printed whole, and which refusal comes first where.
+//! The wall file: the wall of §14.4, printed whole, which refusal comes first where, and where phases stand.
 
 use wall_reference::file::FileRefused;
 use wall_reference::print::wallrun;
@@ -23,7 +23,7 @@ s 1 4 5 4097700000000000 0000000000000000
 // Offsets of the tags in a wall of 6 columns.
 const TAG_2: usize = 27;
 const ROW_1: usize = TAG_2 + 3 + 48;
-const ROW: usize = 4 + 3 + 172;
+const ROW: usize = 4 + 3 + 196;
 const TAG_4: usize = 4;
 
 /// Tag 1 for W 6, d 100, u 10, A 400, r 0, h 12, byte by byte.
@@ -56,12 +56,12 @@ fn start_field() -> Vec<u8> {
     field
 }
 
-/// Tags 3 and 4 of a row without marks and drifts, all links 100.
+/// Tags 3 and 4 of a row without marks, drifts and phases, all links 100.
 fn row_fields() -> Vec<u8> {
     let mut fields = vec![3, 0, 1, 0];
-    fields.extend([4, 0, 172]);
+    fields.extend([4, 0, 196]);
     for links in [3, 3, 4, 4, 3, 3] {
-        fields.extend([0, 0]);
+        fields.extend([0, 0, 0, 0, 0, 0]);
         for _ in 0..links {
             fields.extend([0, 0, 0, 0, 0, 0, 0, 100]);
         }
@@ -97,14 +97,28 @@ fn refused(file: &[u8]) -> (u8, usize) {
     (number, at)
 }
 
-/// The offset of a link value within tag 4's body.
-fn link(tile: usize, place: usize) -> usize {
+/// The offset of a tile's drift within tag 4's body.
+fn drift(tile: usize) -> usize {
     let before: usize = [3, 3, 4, 4, 3, 3][..tile].iter().sum();
-    2 * (tile + 1) + 8 * (before + place)
+    6 * tile + 8 * before
+}
+
+/// The offset of a tile's phase.
+fn phase(tile: usize) -> usize {
+    drift(tile) + 2
+}
+
+/// The offset of a link value.
+fn link(tile: usize, place: usize) -> usize {
+    drift(tile) + 6 + 8 * place
 }
 
 fn put(file: &mut [u8], at: usize, value: u64) {
     file[at..at + 8].copy_from_slice(&value.to_be_bytes());
+}
+
+fn put_phase(file: &mut [u8], at: usize, value: u32) {
+    file[at..at + 4].copy_from_slice(&value.to_be_bytes());
 }
 
 /// The body of tag 4 of row 1.
@@ -249,13 +263,14 @@ fn marks_are_judged_with_tag_4_and_at_its_offset() {
 }
 
 #[test]
-fn row_refusals_stand_at_tag_4_the_lowest_number_first() {
+fn row_refusals_stand_at_tag_4_in_their_order() {
     let tag_4 = ROW_1 + TAG_4;
     let mut file = wall(1);
     put(&mut file, BODY + link(0, 0), 101);
     assert_eq!(refused(&file), (26, tag_4));
-    let last_drift = BODY + 172 - 26;
-    file[last_drift + 1] = 1;
+    put_phase(&mut file, BODY + phase(5), 1_000_000);
+    assert_eq!(refused(&file), (53, tag_4), "before the 26 in column 0");
+    file[BODY + drift(5) + 1] = 1;
     assert_eq!(refused(&file), (25, tag_4), "before the 26 in column 0");
     file[ROW_1 + 3] = 0b001_001; // columns 0 and 3, both predecessors of column 2
     assert_eq!(refused(&file), (24, tag_4));
@@ -354,4 +369,52 @@ fn a_link_stands_at_its_senders_place() {
         let line = format!("t 1 2 {time} k\n");
         assert!(print(&file).contains(&line), "{place}");
     }
+}
+
+/// A wall whose row 0 is even; its clocks drift by 10,000 and have these phases. h is 16.
+fn drifting(phases: [u32; 6]) -> Vec<u8> {
+    let mut file = wall(1);
+    file[21..23].copy_from_slice(&[0x27, 0x10]);
+    file[26] = 16;
+    put(&mut file, TAG_2 + 3 + 24, 1000);
+    for (tile, &value) in phases.iter().enumerate() {
+        file[BODY + drift(tile)..][..2].copy_from_slice(&[0x27, 0x10]);
+        put_phase(&mut file, BODY + phase(tile), value);
+    }
+    file
+}
+
+#[test]
+fn a_phase_stands_after_its_tiles_drift() {
+    let text = print(&drifting([0, 39_999, 40_000, 999_999, 0, 40_000]));
+    for (column, time) in [1497, 1497, 1496, 1496, 1497, 1496].iter().enumerate() {
+        let line = format!("t 1 {column} {time} k\n");
+        assert!(text.contains(&line), "{text}");
+    }
+}
+
+#[test]
+fn a_phase_over_the_limit_is_53_at_tag_4() {
+    for column in 0..6 {
+        for (value, taken) in [(999_999, true), (1_000_000, false), (u32::MAX, false)] {
+            let mut phases = [0; 6];
+            phases[column] = value;
+            let number = run(&drifting(phases))
+                .1
+                .map(|refused| (refused.number, refused.at));
+            assert_eq!(number, (!taken).then_some((53, ROW_1 + TAG_4)));
+        }
+    }
+}
+
+#[test]
+fn the_form_without_phases_is_42_at_its_first_tag_4() {
+    let mut file = wall(1)[..BODY].to_vec();
+    file[BODY - 1] = 172;
+    for links in [3, 3, 4, 4, 3, 3] {
+        file.extend([0, 0]);
+        file.extend([0, 0, 0, 0, 0, 0, 0, 100].repeat(links));
+    }
+    assert_eq!(file.len(), 257);
+    assert_eq!(refused(&file), (42, ROW_1 + TAG_4));
 }

@@ -211,10 +211,13 @@ fn walldiff_finds_no_difference_with_itself() {
 }
 
 #[test]
-fn walldiff_counts_tiles_by_letter() {
+fn walldiff_counts_tiles_by_letter_and_phase() {
     let text = String::from_utf8(walldiff(WALLREF, "200", "letters").stdout).unwrap();
     for letter in Letter::ALL {
         assert!(text.contains(&format!("\n  {letter} ")), "{text}");
+    }
+    for phase in ["0", "999,999", "between"] {
+        assert!(text.contains(&format!("\n  phase {phase} ")), "{text}");
     }
 }
 

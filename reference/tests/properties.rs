@@ -1,5 +1,5 @@
-//! What the requirements claim of whole runs, tried on generated walls: a wave that starts later, and the
-//! reach of one faulty tile.
+//! What the requirements claim of whole runs, tried on generated walls with any phases, which are the same in both
+//! runs: a wave that starts later, and the reach of one faulty tile.
 
 use wall_reference::generate::describe::Description;
 use wall_reference::generate::{self, rng::Rng};
@@ -7,7 +7,7 @@ use wall_reference::reach::{self, wallreach, Outcome};
 use wall_reference::row::Wall;
 use wall_reference::settings::Settings;
 use wall_reference::shape::{are_neighbours, is_marked};
-use wall_reference::{LATEST_ARRIVAL, SILENT};
+use wall_reference::{LARGEST_PHASE, LATEST_ARRIVAL, SILENT};
 
 /// The times of rows 0 to R of a wall, and the letters of rows 1 to R.
 struct Run {
@@ -37,6 +37,19 @@ fn wall_of(description: &Description) -> Wall {
     Wall::new(Settings::new(description.numbers).unwrap()).unwrap()
 }
 
+/// The wall of a seed, as it is generated or, as often, with other phases, the ends among them.
+fn described(seed: u64) -> Description {
+    let rng = &mut Rng::new(seed);
+    let mut description = generate::sound_wall(rng);
+    if rng.chance(50) {
+        for phase in description.rows.iter_mut().flat_map(|row| &mut row.phases) {
+            let random = rng.range(0, LARGEST_PHASE.into()) as u32;
+            *phase = rng.pick(&[0, LARGEST_PHASE, random, random]);
+        }
+    }
+    description
+}
+
 /// The description with all row 0 times and all faulty arrivals `n` ticks later.
 fn later(wall: &Wall, description: &Description, n: u64) -> Description {
     let mut later = description.clone();
@@ -58,7 +71,7 @@ fn a_wave_n_ticks_later_is_at_most_n_and_the_row_later() {
     let mut rng = Rng::new(6);
     let mut tried = 0;
     for seed in 0..1_000 {
-        let description = generate::sound_wall(&mut Rng::new(seed));
+        let description = described(seed);
         let wall = wall_of(&description);
         let first = run(&wall, &description).unwrap();
         let n = rng.spread(0, 1 << 30);
@@ -171,7 +184,7 @@ fn one_faulty_tile_reaches_no_farther_than_demand_3_says() {
     let mut rng = Rng::new(7);
     let (mut tried, mut moved) = (0, 0);
     for seed in 0..3_000 {
-        let description = generate::sound_wall(&mut Rng::new(seed));
+        let description = described(seed);
         let without_faults = description
             .rows
             .iter()

@@ -5,8 +5,8 @@ static void rows(void) {
     polzaintu_ends ends = {77, 78};
     uint64_t gap = 77;
     polzaintu_survey survey = {0, 77, 78};
-    CHECK(polzaintu_row(&PRINTED, NULL, 0, NULL, 0, NULL, 0, NULL, 0, NULL, 0, NULL, 0, &ends) ==
-          21);
+    CHECK(polzaintu_row(&PRINTED, NULL, 0, NULL, 0, NULL, 0, NULL, 0, NULL, 0, NULL, 0, NULL, 0,
+                        &ends) == 21);
     CHECK(ends.earliest == 77 && ends.latest == 78);
     CHECK(polzaintu_widest_gap(&PRINTED, NULL, 0, &gap) == 21);
     CHECK(gap == 77);

@@ -7,7 +7,7 @@
 int main() {
     const polzaintu_settings settings = {6, 1, 100, 10, 400, 0, 12};
     std::vector<uint64_t> row, links, times;
-    std::vector<uint32_t> drifts;
+    std::vector<uint32_t> drifts, phases;
     std::vector<uint8_t> marks, letters;
     polzaintu_ends ends{};
     polzaintu_wall wall;
@@ -16,8 +16,8 @@ int main() {
     polzaintu_wall_new(&wall);
     const bool right =
         polzaintu_row(&settings, row.data(), row.size(), marks.data(), marks.size(), drifts.data(),
-                      drifts.size(), links.data(), links.size(), times.data(), times.size(),
-                      letters.data(), letters.size(), &ends) == 21 &&
+                      drifts.size(), phases.data(), phases.size(), links.data(), links.size(),
+                      times.data(), times.size(), letters.data(), letters.size(), &ends) == 21 &&
         polzaintu_widest_gap(&settings, row.data(), row.size(), &gap) == 21 &&
         polzaintu_mark(&settings, marks.data(), marks.size(), 0, &faulty) == 21 &&
         polzaintu_wall_step(&wall, marks.data(), marks.size(), row.data(), row.size(), times.data(),

@@ -1,4 +1,5 @@
-/* A row: times and letters worked out by hand, numbers 21 to 26 and the order between them. */
+/* A row: times and letters worked out by hand, numbers 21 to 26 and 53, and the order between
+ * them. */
 #include "tests.h"
 
 #include <string.h>
@@ -13,31 +14,32 @@ struct row_call {
     polzaintu_settings settings;
     uint64_t before[POLZAINTU_WIDTH_MOST], links[LINKS_MOST], times[POLZAINTU_WIDTH_MOST];
     polzaintu_ends ends;
-    size_t before_len, marks_len, drifts_len, links_len, times_len, letters_len;
-    uint32_t drifts[POLZAINTU_WIDTH_MOST];
+    size_t before_len, marks_len, drifts_len, phases_len, links_len, times_len, letters_len;
+    uint32_t drifts[POLZAINTU_WIDTH_MOST], phases[POLZAINTU_WIDTH_MOST];
     uint8_t marks[POLZAINTU_WIDTH_MOST / 8], letters[POLZAINTU_WIDTH_MOST];
 };
 
 static uint32_t run(struct row_call *call) {
     return polzaintu_row(&call->settings, call->before, call->before_len, call->marks,
-                         call->marks_len, call->drifts, call->drifts_len, call->links,
-                         call->links_len, call->times, call->times_len, call->letters,
-                         call->letters_len, &call->ends);
+                         call->marks_len, call->drifts, call->drifts_len, call->phases,
+                         call->phases_len, call->links, call->links_len, call->times,
+                         call->times_len, call->letters, call->letters_len, &call->ends);
 }
 
-/* No faults: all times 1000, drifts 0, delays 100. Past each length, and where the call is to
- * write, there is what `fill` leaves. */
+/* No faults: all times 1000, drifts and phases 0, delays 100. Past each length, and where the call
+ * is to write, there is what `fill` leaves. */
 static struct row_call quiet(size_t width) {
     struct row_call call;
     fill(&call, sizeof call);
     call.settings = PRINTED;
     call.settings.width = width;
-    call.before_len = call.drifts_len = call.times_len = call.letters_len = width;
+    call.before_len = call.drifts_len = call.phases_len = width;
+    call.times_len = call.letters_len = width;
     call.marks_len = (width + 7) / 8;
     call.links_len = 3 * width + 2;
     for (size_t c = 0; c < width; c++) {
         call.before[c] = 1000;
-        call.drifts[c] = 0;
+        call.drifts[c] = call.phases[c] = 0;
     }
     for (size_t i = 0; i < call.marks_len; i++)
         call.marks[i] = 0;
@@ -98,6 +100,76 @@ static void drifts_round(void) {
     call.drifts[1] = call.drifts[5] = 10000;
     planned(call, (uint64_t[]){1500, 1497, 1500, 1500, 1500, 1497}, "kkkkkk",
             (polzaintu_ends){1497, 1500});
+}
+
+/* All clocks of drift 10,000. */
+static struct row_call drifting(size_t width) {
+    struct row_call call = quiet(width);
+    call.settings.drift = 10000;
+    call.settings.unit = 16;
+    for (size_t c = 0; c < width; c++)
+        call.drifts[c] = 10000;
+    return call;
+}
+
+/* All arrivals at 1100 read 1111 at each phase; at 1496 it is 1510.96, so that from phase 40,000 on
+ * 1511 is met a tick earlier. */
+static void phases_move_pulses(void) {
+    struct row_call call = drifting(6);
+    const uint32_t phases[6] = {0, 39999, 40000, 999999, 39999, 40000};
+    memcpy(call.phases, phases, sizeof phases);
+    planned(call, (uint64_t[]){1497, 1497, 1496, 1496, 1497, 1496}, "kkkkkk",
+            (polzaintu_ends){1496, 1497});
+    call.phases[5] = 1000000;
+    refused(call, 53);
+}
+
+/* Arrivals at 1099 are at 1109.99: from phase 10,000 on they read 1110, and the pulse waits for
+ * 1510, of which 1495 lacks 0.05. */
+static void phases_move_stamps(void) {
+    struct row_call call = drifting(6);
+    const uint32_t phases[6] = {0, 9999, 10000, 49999, 50000, 999999};
+    memcpy(call.phases, phases, sizeof phases);
+    for (size_t c = 0; c < 6; c++)
+        call.before[c] = 999;
+    planned(call, (uint64_t[]){1495, 1495, 1496, 1496, 1495, 1495}, "kkkkkk",
+            (polzaintu_ends){1495, 1496});
+}
+
+/* In a wide row, where most tiles are worked out eight at a time: two like tiles but for the phase
+ * are a tick apart. */
+static void phases_of_a_wide_row(void) {
+    struct row_call call = drifting(256);
+    uint64_t times[256];
+    char letters[256];
+    for (size_t c = 0; c < 256; c++) {
+        call.phases[c] = 39999 + c % 2;
+        times[c] = 1497 - c % 2;
+        letters[c] = 'k';
+    }
+    planned(call, times, letters, (polzaintu_ends){1496, 1497});
+}
+
+/* A clock that doesn't drift reads the same at every phase. */
+static void phases_without_drift(void) {
+    struct row_call call = quiet(6);
+    call.before[3] = 1080;
+    for (size_t c = 0; c < 6; c++)
+        call.phases[c] = 999999;
+    planned(call, (uint64_t[]){1500, 1500, 1500, 1536, 1500, 1500}, "kkklkk",
+            (polzaintu_ends){1500, 1536});
+}
+
+/* Own at 1115 is at 1126.15, the neighbours read 1111: with a phase of 0.85 own is h after them. */
+static void phases_decide_letters(void) {
+    struct row_call call = drifting(9);
+    call.before[4] = 1015;
+    call.phases[4] = 849999;
+    CHECK(run(&call) == 0);
+    CHECK(call.letters[4] == 'k');
+    call.phases[4] = 850000;
+    CHECK(run(&call) == 0);
+    CHECK(call.letters[4] == 'm');
 }
 
 /* Column 3 is heard by tiles 2 to 5. */
@@ -187,6 +259,7 @@ static void wrong_lengths(size_t width) {
     wrong_length(&call.before_len, &call);
     wrong_length(&call.marks_len, &call);
     wrong_length(&call.drifts_len, &call);
+    wrong_length(&call.phases_len, &call);
     wrong_length(&call.links_len, &call);
     wrong_length(&call.times_len, &call);
     wrong_length(&call.letters_len, &call);
@@ -251,6 +324,32 @@ static void fast_drifts(void) {
     }
 }
 
+static void large_phases(void) {
+    const uint32_t large[] = {1000000, 1000001, 1 << 24, UINT32_C(1) << 31, UINT32_MAX};
+    for (size_t column = 0; column < 9; column++) {
+        struct row_call call = quiet(9);
+        call.phases[column] = 999999;
+        accepted(call);
+        for (size_t i = 0; i < sizeof large / sizeof *large; i++) {
+            call.phases[column] = large[i];
+            refused(call, 53);
+        }
+    }
+}
+
+/* A phase over its limit in one column, a drift or a delay over its own in another. */
+static void phases_between_drifts_and_links(void) {
+    for (size_t phase = 0; phase < 9; phase++)
+        for (size_t other = 0; other < 9; other++) {
+            struct row_call call = quiet(9);
+            call.phases[phase] = 1000000;
+            call.links[link_place(9, other, other)] = 101;
+            refused(call, 53);
+            call.drifts[other] = 1;
+            refused(call, 25);
+        }
+}
+
 static void bad_links(void) {
     for (size_t place = 0; place < 3 * 9 + 2; place++) {
         struct row_call call = quiet(9);
@@ -273,11 +372,13 @@ static void bad_links(void) {
     }
 }
 
-/* Each fault is added to those of higher numbers, further on in the row. */
-static void lowest_applies(void) {
+/* Each fault is added to those that come after it, further on in the row. */
+static void first_applies(void) {
     struct row_call call = quiet(9);
     call.links[0] = 101;
     refused(call, 26);
+    call.phases[8] = 1000000;
+    refused(call, 53);
     call.drifts[8] = 1;
     refused(call, 25);
     mark(&call, 4);
@@ -298,6 +399,11 @@ static void lowest_applies(void) {
 void row_tests(void) {
     printed_wall();
     drifts_round();
+    phases_move_pulses();
+    phases_move_stamps();
+    phases_of_a_wide_row();
+    phases_without_drift();
+    phases_decide_letters();
     faults();
     widest_wall();
     letters_by_column(9);
@@ -314,6 +420,8 @@ void row_tests(void) {
     crowded(9);
     crowded(17);
     fast_drifts();
+    large_phases();
+    phases_between_drifts_and_links();
     bad_links();
-    lowest_applies();
+    first_applies();
 }

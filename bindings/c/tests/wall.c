@@ -38,11 +38,11 @@ static void accepted_wall(void) {
     stands(&walk, POLZAINTU_START_DUE, 0, TAG_2, 3 + 48);
     letters_are(&walk, NULL);
     go(&walk, &file, 1);
-    stands(&walk, POLZAINTU_ROW_DUE, 0, TAG_3, 4 + 3 + 172);
+    stands(&walk, POLZAINTU_ROW_DUE, 0, TAG_3, 4 + 3 + 196);
     row_is(walk.next, (uint64_t[]){1000, 1000, 1000, 1080, 1000, 1000});
     letters_are(&walk, NULL); /* row 0 has none */
     go(&walk, &file, 1);
-    stands(&walk, POLZAINTU_ROW_DUE, 1, LAST_TAG_3, 4 + 3 + 172);
+    stands(&walk, POLZAINTU_ROW_DUE, 1, LAST_TAG_3, 4 + 3 + 196);
     row_is(walk.next, (uint64_t[]){1500, 1500, 1500, 1536, 1500, 1500});
     letters_are(&walk, "kkklkk");
     go(&walk, &file, 1);
@@ -102,6 +102,32 @@ static void faulty_tile(void) {
     go(&walk, &file, 1);
     row_is(walk.next, (uint64_t[]){2000, 2000, 2000, 2036, 2000, 2000});
     letters_are(&walk, "kkklkk");
+}
+
+/* Clocks of drift 10,000 in row 1, with phases, and an even row 0: 1511 is met a tick earlier from
+ * phase 40,000 on. In row 2 nothing drifts. */
+static void phases(void) {
+    static const uint32_t PHASES[6] = {0, 39999, 40000, 999999, 40000, 39999};
+    struct wall_file file = small_wall();
+    polzaintu_settings settings = PRINTED;
+    settings.rows = 2;
+    settings.drift = 10000;
+    settings.unit = 16;
+    put_settings(&file, settings);
+    put(&file, TAG_2 + 3 + 8 * 3, 8, 1000);
+    for (size_t tile = 0; tile < 6; tile++) {
+        put(&file, drift_at(TAG_4, tile), 2, 10000);
+        put(&file, phase_at(TAG_4, tile), 4, PHASES[tile]);
+        put(&file, phase_at(LAST_TAG_4, tile), 4, 999999);
+    }
+    struct walk walk = begin();
+    go(&walk, &file, 3);
+    row_is(walk.next, (uint64_t[]){1497, 1497, 1496, 1496, 1496, 1497});
+    letters_are(&walk, "kkkkkk");
+    go(&walk, &file, 1);
+    row_is(walk.next, (uint64_t[]){1997, 1997, 1996, 1996, 1996, 1997});
+    go(&walk, &file, 1);
+    CHECK(walk.wall.stage == POLZAINTU_ENDED);
 }
 
 /* The search range of the small wall, from rows 0 and 1; row 0 has the larger reach. */
@@ -251,6 +277,7 @@ void wall_tests(void) {
     accepted_wall();
     printed_seams();
     faulty_tile();
+    phases();
     surveyed_wall();
     settings_step();
     most_bytes();

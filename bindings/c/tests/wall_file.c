@@ -24,20 +24,25 @@ void put_settings(struct wall_file *file, polzaintu_settings s) {
 }
 
 size_t drift_at(size_t tag_4, size_t tile) {
-    return tag_4 + 3 + 2 * tile + 8 * link_place(6, tile, 0);
+    return tag_4 + 3 + 6 * tile + 8 * link_place(6, tile, 0);
+}
+
+size_t phase_at(size_t tag_4, size_t tile) {
+    return drift_at(tag_4, tile) + 2;
 }
 
 size_t link_at(size_t tag_4, size_t tile, size_t sender) {
-    return tag_4 + 3 + 2 * (tile + 1) + 8 * link_place(6, tile, sender);
+    return tag_4 + 3 + 6 * (tile + 1) + 8 * link_place(6, tile, sender);
 }
 
-/* A row without faults: no marks of the row before, drifts 0, delays 100. */
+/* A row without faults: no marks of the row before, drifts and phases 0, delays 100. */
 static void put_row(struct wall_file *file, size_t tag_3) {
     put_field(file, tag_3, 3, 1);
     put(file, tag_3 + 3, 1, 0);
-    put_field(file, tag_3 + 4, 4, 172);
+    put_field(file, tag_3 + 4, 4, 196);
     for (size_t tile = 0; tile < 6; tile++) {
         put(file, drift_at(tag_3 + 4, tile), 2, 0);
+        put(file, phase_at(tag_3 + 4, tile), 4, 0);
         for (size_t sender = 0; sender < 6; sender++)
             if (tile == sender || neighbours(6, tile, sender))
                 put(file, link_at(tag_3 + 4, tile, sender), 8, 100);

@@ -10,9 +10,9 @@ enum {
     TAG_2 = 27,
     TAG_3 = 78,
     TAG_4 = 82,
-    LAST_TAG_3 = 257,
-    LAST_TAG_4 = 261,
-    END = 436
+    LAST_TAG_3 = 281,
+    LAST_TAG_4 = 285,
+    END = 484
 };
 
 struct wall_file {
@@ -29,8 +29,9 @@ void put(struct wall_file *file, size_t at, size_t size, uint64_t number);
 /* Writes tag 1. */
 void put_settings(struct wall_file *file, polzaintu_settings settings);
 
-/* Where a tile's drift, and where the value of a link, stands in a row's tag 4. */
+/* Where a tile's drift and phase, and where the value of a link, stand in a row's tag 4. */
 size_t drift_at(size_t tag_4, size_t tile);
+size_t phase_at(size_t tag_4, size_t tile);
 size_t link_at(size_t tag_4, size_t tile, size_t sender);
 
 /* A file on its way: where it stands, the last row accepted, and what a step wrote: a row and six

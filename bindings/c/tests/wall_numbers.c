@@ -101,7 +101,7 @@ static void late_starts(void) {
     }
 }
 
-/* Each fault is added to those of higher numbers; they are judged once tag 4 is there. */
+/* Each fault is added to those that come after it; they are judged once tag 4 is there. */
 static void row_numbers(size_t tag_3) {
     struct wall_file file = small_wall();
     size_t tag_4 = tag_3 + 4;
@@ -109,18 +109,32 @@ static void row_numbers(size_t tag_3) {
     refused(file, 26, tag_4);
     put(&file, link_at(tag_4, 0, 0), 8, 89);
     refused(file, 26, tag_4);
+    put(&file, phase_at(tag_4, 5), 4, 1000000);
+    refused(file, 53, tag_4);
+    put(&file, phase_at(tag_4, 0), 4, UINT32_MAX);
+    refused(file, 53, tag_4);
     put(&file, drift_at(tag_4, 5), 2, 1);
     refused(file, 25, tag_4);
     put(&file, tag_3 + 3, 1, 0x03);
     refused(file, 24, tag_4);
     put(&file, tag_3 + 3, 1, 0x83);
     refused(file, 22, tag_4);
-    file.length = tag_4 + 3 + 171;
+    file.length = tag_4 + 3 + 195;
     refused(file, 43, tag_4);
     file.bytes[tag_4 + 2] ^= 1;
     refused(file, 42, tag_4);
     file.bytes[tag_4] = 3;
     refused(file, 41, tag_4);
+}
+
+/* The form of tag 4 before there were phases, of which the length alone is looked at. */
+static void old_form(void) {
+    struct wall_file file = small_wall();
+    put(&file, TAG_4 + 1, 2, 172);
+    refused(file, 42, TAG_4);
+    file = small_wall();
+    put(&file, LAST_TAG_4 + 1, 2, 172);
+    refused(file, 42, LAST_TAG_4);
 }
 
 /* A faulty arrival that is too late, and the latest that is not. */
@@ -158,6 +172,7 @@ void wall_number_tests(void) {
     late_starts();
     row_numbers(TAG_3);
     row_numbers(LAST_TAG_3);
+    old_form();
     late_arrival();
     late_row();
 }

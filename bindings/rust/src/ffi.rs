@@ -169,6 +169,8 @@ extern "C" {
         marks_len: usize,
         drifts: *const u32,
         drifts_len: usize,
+        phases: *const u32,
+        phases_len: usize,
         links: *const u64,
         links_len: usize,
         times: *mut u64,
@@ -282,6 +284,7 @@ pub fn row(
         before,
         marks,
         drifts,
+        phases,
         links,
     } = lent;
     // SAFETY: each pointer is a slice's, with that slice's length, or a reference's; the times, the
@@ -296,6 +299,8 @@ pub fn row(
             marks.len(),
             drifts.as_ptr(),
             drifts.len(),
+            phases.as_ptr(),
+            phases.len(),
             links.as_ptr(),
             links.len(),
             times.as_mut_ptr(),

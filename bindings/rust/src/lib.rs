@@ -1,9 +1,10 @@
 //! The pulse planner for detector walls. The planner is written and proved in Rattle; this crate
 //! links its static library and gives each operation a safe call.
 //!
-//! A call or a file that is turned away answers a [`Refusal`], the lowest number that applies, and
-//! then every lent row holds what it held. Times, delays, stamps and gaps are in ticks. W, R, d, u,
-//! A, r and h are the settings ([`Limits`]). §4.2 is a clause of `docs/REQUIREMENTS.md`.
+//! A call or a file that is turned away answers a [`Refusal`], the lowest number that applies, where
+//! 53 stands between 25 and 26, and then every lent row holds what it held. Times, delays, stamps and
+//! gaps are in ticks. W, R, d, u, A, r and h are the settings ([`Limits`]). §4.2 is a clause of
+//! `docs/REQUIREMENTS.md`.
 //!
 //! - [`Settings`]: checked settings of a wall.
 //! - [`tile::forward`]: what one tile forwards.
@@ -31,6 +32,7 @@
 //!     before: &[1000, 1000, 1000, 1080, 1000, 1000],
 //!     marks: &[0],
 //!     drifts: &[0; 6],
+//!     phases: &[0; 6],
 //!     links: &[100; 20],
 //! }, &mut times, &mut letters)?;
 //! assert_eq!(times, [1500, 1500, 1500, 1536, 1500, 1500]);

@@ -1,4 +1,4 @@
-//! One row of pulses, worked out from the row before it: §7.1 to §7.6, §E3.4.
+//! One row of pulses, worked out from the row before it: §7.1 to §7.6, §E3.4, §E4.2.
 
 use crate::{ffi, Letter, Refusal, Settings};
 
@@ -15,6 +15,10 @@ pub struct Lent<'a> {
     pub marks: &'a [u8],
     /// The W drifts of the row's tiles, 0 to r.
     pub drifts: &'a [u32],
+    /// The W phases of the row's tiles, 0 to 999,999: how far into a reading each clock starts, in
+    /// millionths. At tick t a clock of drift p and phase q reads (t × (1,000,000 + p) + q) /
+    /// 1,000,000, rounded down.
+    pub phases: &'a [u32],
     /// The [`Settings::link_values`], tile after tile and, of each tile, sender after sender as
     /// their columns rise; [`link_place`] finds one. That of a correct sender is the delay, d - u
     /// to d; that of a faulty one is the tick at which its pulse arrives, up to 2^40 - 1, or
@@ -36,8 +40,8 @@ pub struct Ends {
 }
 
 /// Writes the W times of the row and the letter of each, which says what rule fixed it, or answers
-/// number 21 to 26 and leaves times and letters as they were. A tile that the row after marks faulty
-/// has a letter too.
+/// number 21 to 26 or 53, which comes after 25 and before 26, and leaves times and letters as they
+/// were. A tile that the row after marks faulty has a letter too.
 ///
 /// ```
 /// use polzaintu::row::{self, Ends, Lent, SILENT};
@@ -52,7 +56,9 @@ pub struct Ends {
 /// for place in (0..6).filter_map(|tile| row::link_place(&settings, tile, 5)) {
 ///     links[place] = SILENT;
 /// }
-/// let lent = Lent { before: &[1000; 6], marks: &[1 << 5], drifts: &[0; 6], links: &links };
+/// let lent = Lent {
+///     before: &[1000; 6], marks: &[1 << 5], drifts: &[0; 6], phases: &[0; 6], links: &links,
+/// };
 /// let (mut times, mut letters) = ([0; 6], [Letter::Kept; 6]);
 /// let ends = row::plan(&settings, lent, &mut times, &mut letters)?;
 /// assert_eq!(ends, Ends { earliest: 1500, latest: 1536 });

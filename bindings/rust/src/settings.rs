@@ -51,7 +51,7 @@ impl Settings {
         &self.0
     }
 
-    /// W, the times and the drifts of a row.
+    /// W, the times, the drifts and the phases of a row.
     #[must_use]
     pub fn width(&self) -> usize {
         // At most 256.

@@ -19,7 +19,7 @@ use std::{error, fmt, mem};
 /// A file is turned away.
 #[derive(Clone, Copy, Debug, PartialEq, Eq)]
 pub struct Refused {
-    /// Number 1 to 9, 22, 24 to 26, or 41 to 45.
+    /// Number 1 to 9, 22, 24 to 26, 41 to 45, or 53.
     pub refusal: Refusal,
     /// Where, in bytes from the start of the file: at the tag of the faulty field, or for 44 at the
     /// first byte that is too many.
@@ -92,7 +92,7 @@ impl Pulses {
 
 impl Wall {
     /// The most bytes that a step is due.
-    pub const DUE_MOST: usize = 6_710;
+    pub const DUE_MOST: usize = 7_734;
 
     /// A file of which nothing is taken.
     #[must_use]

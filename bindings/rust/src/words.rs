@@ -30,6 +30,7 @@ pub(crate) fn of(number: u32) -> &'static str {
         45 => "a time of row 0 is above 2^39 - 1",
         51 => "n is outside 1 to 64",
         52 => "no closed wave is held",
+        53 => "the phase of a tile is greater than 999,999",
         // numbers.tsv: end
         _ => "no such number",
     }

@@ -1,11 +1,12 @@
-// When a row call is turned away. Each check goes over the whole row, so that the lowest number that
-// applies anywhere is the one given.
+// When a row call is turned away. Each check goes over the whole row, so that the first number that
+// applies anywhere is the one given: 21 to 26, with 53 before 26.
 use columns::first_sender;
 use columns::four_senders;
 use columns::marked;
 use columns::quiet;
 use links::LATEST;
 use links::any_bad_links;
+use rule::clock::Clock;
 use settings::Settings;
 ghost use mathlib.Core.Path.{_≡_};
 ghost use mathlib.Core.Bool.{true, cond};
@@ -18,7 +19,7 @@ ghost use Rattle.admission.specs.Call.{call};
 ghost use Rattle.links.specs.Links.{latest-time};
 ghost use Rattle.columns.specs.Marks.{marked, mark-bytes, faulty-among};
 ghost use Rattle.admission.specs.Together.{All-by};
-ghost use Rattle.admission.specs.Refusal.{lengths-are, stray-mark, late-time, crowded, fast, row-refusal};
+ghost use Rattle.admission.specs.Refusal.{lengths-are, stray-mark, late-time, crowded, over, row-refusal};
 
 // The number under which a row call is turned away, or 0.
 pub fn refusal(
@@ -26,11 +27,12 @@ pub fn refusal(
     before: &[u64],
     marks: &[u8],
     drifts: &[u32],
+    phases: &[u32],
     links: &[u64],
     room: usize,
     letters: usize,
 ) -> u32
-    ensures { λ r. ⌜ r ≡ row-refusal settings (now (before .entry)) (call (now (marks .entry)) (now (drifts .entry)) (now (links .entry)) room letters) ⌝ }
+    ensures { λ r. ⌜ r ≡ row-refusal settings (now (before .entry)) (call (now (marks .entry)) (now (drifts .entry)) (now (phases .entry)) (now (links .entry)) room letters) ⌝ }
 {
     let number = settings.refusal();
     if number != 0 {
@@ -42,6 +44,7 @@ pub fn refusal(
         before.len(),
         marks.len(),
         drifts.len(),
+        phases.len(),
         links.len(),
         room,
         letters,
@@ -57,8 +60,11 @@ pub fn refusal(
     if crowded(width, marks) {
         return 24;
     }
-    if fast(width, settings.drift, drifts) {
+    if any_over(width, settings.drift, drifts) {
         return 25;
+    }
+    if any_over(width, Clock::PHASE_MOST, phases) {
+        return 53;
     }
     if any_bad_links(settings, width, marks, links) {
         return 26;
@@ -72,12 +78,13 @@ fn lengths(
     before: usize,
     marks: usize,
     drifts: usize,
+    phases: usize,
     links: usize,
     room: usize,
     letters: usize,
 ) -> bool
     requires { ⌜ width ≤ 256 ⌝ }
-    ensures { λ r. ⌜ r ≡ lengths-are width before marks drifts links room letters ⌝ }
+    ensures { λ r. ⌜ r ≡ lengths-are width before marks drifts phases links room letters ⌝ }
 {
     if before != width {
         return false;
@@ -86,6 +93,9 @@ fn lengths(
         return false;
     }
     if drifts != width {
+        return false;
+    }
+    if phases != width {
         return false;
     }
     if links != 3 * width + 2 {
@@ -188,17 +198,17 @@ fn bit(marks: &[u8], c: usize) -> u8
     0
 }
 
-// 25: a drift over the limit.
-fn fast(width: usize, limit: u64, drifts: &[u32]) -> bool
-    requires { ⌜ length (now drifts) ≡ width ⌝ }
-    ensures { λ r. ⌜ r ≡ any-below width (fast limit (now (drifts .entry))) ⌝ }
+// 25 and 53: a drift or a phase over its limit.
+fn any_over(width: usize, limit: u64, values: &[u32]) -> bool
+    requires { ⌜ length (now values) ≡ width ⌝ }
+    ensures { λ r. ⌜ r ≡ any-below width (over limit (now (values .entry))) ⌝ }
 {
     let mut most: u32 = 0;
     let mut c = 0;
     while c < width {
-        let drift = drifts[c];
-        if most < drift {
-            most = drift;
+        let value = values[c];
+        if most < value {
+            most = value;
         }
         c += 1;
     }

@@ -16,7 +16,7 @@ use Rattle.columns.specs.Columns.{are-neighbours, columns-from, neighbours, is-
 use Rattle.columns.specs.Marks.{marked, mark-bytes, faulty-among}
 use Rattle.links.specs.Links.{bad-value, bad-link, bad-links}
 use Rattle.admission.specs.Call.{call}
-use Rattle.admission.specs.Refusal.{lengths-are, lengths-right, stray-mark, late-time, crowded, fast, row-tests, row-refusal}
+use Rattle.admission.specs.Refusal.{lengths-are, lengths-right, stray-mark, late-time, crowded, over, row-tests, row-refusal}
 use Rattle.pulse.specs.Pulse.{arrives, arrival, read-at, stamp, pulse, letter-at}
 use Rattle.row.specs.Row.{row-of, letters-of, least-of, most-of, planned, written, lettered, number-of as row-number}
 use Rattle.runs.specs.Reach.{apart, widest, gap-below, widest-gap, reach-ticks}
@@ -36,8 +36,8 @@ unfolding Tile-cases Tile wall-settings settings-from settings settings-refusal 
 tile-cases = ((refl, refl), (refl, refl), (refl, refl), (refl, refl), (refl, refl), (refl, refl), (refl, refl), (refl, refl), (refl, refl), (refl, refl))
 
 pub row-cases : Row-cases
-unfolding Row-cases Planned row-0 wall-settings settings-from settings settings-refusal settings-tests first outside drift-cost up call planned written lettered row-number ends-left least-of most-of row-refusal row-tests any-below any-of mark-bytes lengths-are lengths-right stray-mark late-time faulty-among crowded fast bad-value bad-link bad-links marked link link-place links-before place-of predecessors is-predecessor are-neighbours columns-from neighbours row-of letters-of table-from pulse letter-at tile-pulse tile-letter letter heard-letter early-or-kept tile-P P heard-correction D least-to larger-at larger smaller natural stamp arrival arrives read-at reads first-tick stamp-of earliest latest earlier later step-of step
-row-cases = ((refl, refl, refl, refl), (refl, refl, refl, refl))
+unfolding Row-cases Planned row-0 wall-settings settings-from settings settings-refusal settings-tests first outside drift-cost up call planned written lettered row-number ends-left least-of most-of row-refusal row-tests any-below any-of mark-bytes lengths-are lengths-right stray-mark late-time faulty-among crowded over bad-value bad-link bad-links marked link link-place links-before place-of predecessors is-predecessor are-neighbours columns-from neighbours row-of letters-of table-from pulse letter-at tile-pulse tile-letter letter heard-letter early-or-kept tile-P P heard-correction D least-to larger-at larger smaller natural stamp arrival arrives read-at reads first-tick stamp-of earliest latest earlier later step-of step
+row-cases = ((refl, refl, refl, refl), (refl, refl, refl, refl), (refl, refl, refl, refl))
 
 pub seam-cases : Seam-cases
 unfolding Seam-cases Seam held-halves seam-number side-left halves-left side-word seam-of late joined halves half toBits round

@@ -49,20 +49,21 @@ Tile-cases =
 unfoldable pub row-0 : List ℕ
 row-0 = 1000 ∷ 1000 ∷ 1000 ∷ 1080 ∷ 1000 ∷ 1000 ∷ []
 
--- §17.1 polzaintu_row with this delay on the first link: its number, the times, the letters, and the earliest and the latest time
-unfoldable pub Planned : (link : ℕ) → (number : ℕ) → (times letters ends : List ℕ) → Type 0
-Planned v n times letters ends =
-    let x = call (0 ∷ []) (replicate 6 0) (v ∷ replicate 19 100) 6 6 in
+-- §17.1 polzaintu_row with this phase of the first tile and this delay on its first link: its number, the times, the letters, and the earliest and the latest time
+unfoldable pub Planned : (phase link : ℕ) → (number : ℕ) → (times letters ends : List ℕ) → Type 0
+Planned q v n times letters ends =
+    let x = call (0 ∷ []) (replicate 6 0) (q ∷ replicate 5 0) (v ∷ replicate 19 100) 6 6 in
     (row-number (planned wall-settings row-0 x) ≡ n)
     × (written wall-settings row-0 x (replicate 6 7) ≡ times)
     × (lettered wall-settings row-0 x (replicate 6 7) ≡ letters)
     × (ends-left (planned wall-settings row-0 x) (7 ∷ 8 ∷ []) ≡ ends)
 
--- §17.1 a row, and a delay of 101, which is 26 and leaves all as it was
+-- §17.1 a row; a delay of 101, which is 26 and leaves all as it was; §E4.3 with a phase of 1,000,000 it is 53
 unfoldable pub Row-cases : Type 0
 Row-cases =
-    Planned 100 0 (1500 ∷ 1500 ∷ 1500 ∷ 1536 ∷ 1500 ∷ 1500 ∷ []) (107 ∷ 107 ∷ 107 ∷ 108 ∷ 107 ∷ 107 ∷ []) (1500 ∷ 1536 ∷ [])
-    × Planned 101 26 (replicate 6 7) (replicate 6 7) (7 ∷ 8 ∷ [])
+    Planned 0 100 0 (1500 ∷ 1500 ∷ 1500 ∷ 1536 ∷ 1500 ∷ 1500 ∷ []) (107 ∷ 107 ∷ 107 ∷ 108 ∷ 107 ∷ 107 ∷ []) (1500 ∷ 1536 ∷ [])
+    × Planned 0 101 26 (replicate 6 7) (replicate 6 7) (7 ∷ 8 ∷ [])
+    × Planned 1000000 101 53 (replicate 6 7) (replicate 6 7) (7 ∷ 8 ∷ [])
 
 -- §17.1 floats that are there before
 unfoldable pub held-halves : List Float

@@ -37,21 +37,25 @@ latest-start = 549755813887
 unfoldable pub late-start : (times : List ℕ) → (c : ℕ) → Bool
 late-start ts c = ltb latest-start (getD ts c 0)
 
--- §9.5 the bytes of tag 4's body
+-- §E4.4 the bytes of tag 4's body
 abbrev pub tiles-size : (w : ℕ) → ℕ
-tiles-size w = 26 * w + 16
+tiles-size w = 30 * w + 16
 
 -- §9.5 where a tile's drift stands
 unfoldable pub tile-place : (w c : ℕ) → ℕ
-tile-place w c = 2 * c + 8 * links-before w c
+tile-place w c = 6 * c + 8 * links-before w c
 
 -- §9.5 the drifts of all tiles
 unfoldable pub drifts-in : (w : ℕ) → (body : List ℕ) → List ℕ
 drifts-in w bs = table-from w 0 (λ c. big-endian 2 bs (tile-place w c))
 
--- §9.5 the link values of one tile, which follow its drift
+-- §E4.4 the phases of all tiles, each after its drift
+unfoldable pub phases-in : (w : ℕ) → (body : List ℕ) → List ℕ
+phases-in w bs = table-from w 0 (λ c. big-endian 4 bs (tile-place w c + 2))
+
+-- §9.5 the link values of one tile, which follow its phase (§E4.4)
 unfoldable pub tile-links : (w : ℕ) → (body : List ℕ) → (c : ℕ) → List ℕ
-tile-links w bs c = table-from (length (predecessors w c)) 0 (λ j. big-endian 8 bs (tile-place w c + 2 + 8 * j))
+tile-links w bs c = table-from (length (predecessors w c)) 0 (λ j. big-endian 8 bs (tile-place w c + 6 + 8 * j))
 
 -- §9.5 the link values of the tiles below a column
 unfoldable pub links-below : (w : ℕ) → (body : List ℕ) → (c : ℕ) → List ℕ
@@ -80,4 +84,4 @@ tiles-in w bs = body (tiles-size w) (drop (marks-field w) bs)
 
 -- §9.7 the row call that both fields describe, judged as one
 unfoldable pub call-in : (w : ℕ) → (rest : List ℕ) → Call
-call-in w bs = call (marks-in w bs) (drifts-in w (tiles-in w bs)) (links-in w (tiles-in w bs)) w w
+call-in w bs = call (marks-in w bs) (drifts-in w (tiles-in w bs)) (phases-in w (tiles-in w bs)) (links-in w (tiles-in w bs)) w w

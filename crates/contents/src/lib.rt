@@ -14,7 +14,7 @@ ghost use Rattle.settings.specs.Settings.{checked};
 ghost use Rattle.columns.specs.Columns.{links-before};
 ghost use Rattle.columns.specs.Window.{four-senders};
 ghost use Rattle.columns.specs.Wrote.{Wrote};
-ghost use Rattle.contents.specs.Contents.{settings-in, times-in, late-start, drifts-in, links-in, tile-links, tile-place};
+ghost use Rattle.contents.specs.Contents.{settings-in, times-in, late-start, drifts-in, phases-in, links-in, tile-links, tile-place};
 
 // The latest row 0 time.
 pub const LATEST_START: u64 = 549_755_813_887;
@@ -62,27 +62,29 @@ pub fn times(body: &[u8], times: &mut [u64])
     }
 }
 
-// Writes the drifts and the link values of a row.
-pub fn tiles(width: usize, body: &[u8], drifts: &mut [u32], links: &mut [u64])
-    requires { ⌜ (6 ≤ width) × (width ≤ 256) × (length (now body) ≡ 26 * width + 16) ⌝ }
-    requires { ⌜ (length (now drifts) ≡ width) × (length (now links) ≡ 3 * width + 2) ⌝ }
+// Writes the drifts, the phases and the link values of a row.
+pub fn tiles(width: usize, body: &[u8], drifts: &mut [u32], phases: &mut [u32], links: &mut [u64])
+    requires { ⌜ (6 ≤ width) × (width ≤ 256) × (length (now body) ≡ 30 * width + 16) ⌝ }
+    requires { ⌜ (length (now drifts) ≡ width) × (length (now phases) ≡ width) × (length (now links) ≡ 3 * width + 2) ⌝ }
     ensures drifts { λ _. ⌜ now (drifts .exit) ≡ drifts-in width (now (body .entry)) ⌝ }
+    ensures phases { λ _. ⌜ now (phases .exit) ≡ phases-in width (now (body .entry)) ⌝ }
     ensures links { λ _. ⌜ now (links .exit) ≡ links-in width (now (body .entry)) ⌝ }
 {
     let mut c = 0;
     let mut n = 0;
     while c < width {
-        let at = 2 * c + 8 * n;
+        let at = 6 * c + 8 * n;
         drifts[c] = two(body, at) as u32;
-        n = tile(width, c, body, at + 2, links, n);
+        phases[c] = four(body, at + 2) as u32;
+        n = tile(width, c, body, at + 6, links, n);
         c += 1;
     }
 }
 
 // Writes the link values of one tile from place n on, and answers where they end.
 fn tile(width: usize, c: usize, body: &[u8], at: usize, links: &mut [u64], n: usize) -> usize
-    requires { ⌜ (6 ≤ width) × (width ≤ 256) × (c < width) × (n ≡ links-before width c) × (at ≡ tile-place width c + 2) ⌝ }
-    requires { ⌜ (n + 3 ≤ length (now links)) × (length (now links) ≤ 770) × (at + 24 ≤ length (now body)) × (length (now body) ≤ 6672) ⌝ }
+    requires { ⌜ (6 ≤ width) × (width ≤ 256) × (c < width) × (n ≡ links-before width c) × (at ≡ tile-place width c + 6) ⌝ }
+    requires { ⌜ (n + 3 ≤ length (now links)) × (length (now links) ≤ 770) × (at + 24 ≤ length (now body)) × (length (now body) ≤ 7696) ⌝ }
     requires { ⌜ (four-senders width c ≡ true → (n + 4 ≤ length (now links)) × (at + 32 ≤ length (now body))) ⌝ }
     ensures { λ r. ⌜ Wrote (now (links .entry)) n (tile-links width (now (body .entry)) c) (now (links .exit)) r ⌝ }
 {

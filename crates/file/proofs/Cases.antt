@@ -14,7 +14,7 @@ use Rattle.columns.specs.Columns.{are-neighbours, columns-from, neighbours, is-
 use Rattle.columns.specs.Marks.{marked, mark-bytes, faulty-among}
 use Rattle.links.specs.Links.{bad-value, bad-link, bad-links}
 use Rattle.admission.specs.Call.{call}
-use Rattle.admission.specs.Refusal.{lengths-are, lengths-right, stray-mark, late-time, crowded, fast, row-tests, row-refusal}
+use Rattle.admission.specs.Refusal.{lengths-are, lengths-right, stray-mark, late-time, crowded, over, row-tests, row-refusal}
 use Rattle.pulse.specs.Pulse.{arrives, arrival, read-at, stamp, pulse, letter-at}
 use Rattle.row.specs.Row.{row-of, letters-of}
 use Rattle.seam.specs.Seam.{half, halves, late, joined, seam-of}
@@ -23,17 +23,17 @@ use Rattle.lines.specs.Line.{side-word, t-line, halves-words, open-words, seam-
 use Rattle.lines.specs.Row.{each-below, each-of, right-neighbours, tile-text, seam-text, row-text}
 use Rattle.fields.specs.Bytes.{big-endian}
 use Rattle.fields.specs.Field.{field-tests, field-refusal, body, or-else}
-use Rattle.contents.specs.Contents.{settings-in, times-in, late-start, tile-place, drifts-in, tile-links, links-below, links-in, marks-field, row-size, marks-in, tiles-in, call-in}
+use Rattle.contents.specs.Contents.{settings-in, times-in, late-start, tile-place, drifts-in, phases-in, tile-links, links-below, links-in, marks-field, row-size, marks-in, tiles-in, call-in}
 use Rattle.steps.specs.Number.{settings-number, start-number, row-number, row-offset}
 use Rattle.steps.specs.Shown.{row-shown, no-marks, number-shown}
 use Rattle.show.specs.Text.{text-of, texts-of}
 use Rattle.file.specs.File.{rows-shown, start-shown, shown, wall-text}
 use Rattle.file.specs.Cases.{codes, printed, put, printed-file, Printed-whole, Byte-more, faulty-file, first-lines, second-lines, Faulty-printed, Second-row-refused, Faulty-byte-more}
-use Rattle.file.specs.Refusals.{case, changed, cut, fields-refused, settings-refused, row-refused, order-kept, Refusals-met, latest-start, Latest-start-met}
+use Rattle.file.specs.Refusals.{case, changed, cut, fields-refused, settings-refused, row-refused, order-kept, Refusals-met, latest-start, Latest-start-met, Largest-phase-met}
 
 -- the definitions that a refusal is computed by, and those of the rows and lines that are shown
 refusing : Unit {0}
-unfolding rows-shown start-shown shown settings-number start-number row-number row-offset row-shown no-marks settings-in times-in late-start tile-place drifts-in tile-links links-below links-in marks-field row-size marks-in tiles-in call-in field-tests field-refusal body or-else big-endian call lengths-are lengths-right stray-mark late-time crowded fast row-tests row-refusal bad-value bad-link bad-links marked mark-bytes faulty-among are-neighbours columns-from is-predecessor predecessors links-before place-in link-place link table-from any-of settings settings-refusal settings-tests drift-cost up first outside any-below put printed-file
+unfolding rows-shown start-shown shown settings-number start-number row-number row-offset row-shown no-marks settings-in times-in late-start tile-place drifts-in phases-in tile-links links-below links-in marks-field row-size marks-in tiles-in call-in field-tests field-refusal body or-else big-endian call lengths-are lengths-right stray-mark late-time crowded over row-tests row-refusal bad-value bad-link bad-links marked mark-bytes faulty-among are-neighbours columns-from is-predecessor predecessors links-before place-in link-place link table-from any-of settings settings-refusal settings-tests drift-cost up first outside any-below put printed-file
 refusing = tt
 
 showing : Unit {0}
@@ -67,3 +67,7 @@ refusals-met = refl
 pub latest-start-met : Latest-start-met
 unfolding Latest-start-met latest-start number-shown refusing
 latest-start-met = refl
+
+pub largest-phase-met : Largest-phase-met
+unfolding Largest-phase-met number-shown refusing
+largest-phase-met = refl

@@ -47,8 +47,8 @@ rows-of bs = rows (settings-of bs) (calls-of bs) (start-of bs)
 -- §12.1 the limits of a row: both of its fields are there, and what they hold is within its limits
 pub record Row-keeps (s : Settings) (rest : List ℕ) : Type 0 where
   pub marks-there : Field-there 3 ((s .width + 7) / 8) rest
-  pub tiles-there : Field-there 4 (26 * s .width + 16) (drop (3 + (s .width + 7) / 8) rest)
-  pub within : Tile-limits s (call-in (s .width) rest .marks) (call-in (s .width) rest .drifts) (call-in (s .width) rest .links)
+  pub tiles-there : Field-there 4 (30 * s .width + 16) (drop (3 + (s .width + 7) / 8) rest)
+  pub within : Tile-limits s (call-in (s .width) rest .marks) (call-in (s .width) rest .drifts) (call-in (s .width) rest .phases) (call-in (s .width) rest .links)
 
 -- §12.1 the limits of n rows, with nothing after the last
 pub data Rows-keep (s : Settings) : (n : ℕ) → (rest : List ℕ) → Type 0 where

@@ -41,7 +41,7 @@ File-plain = (file : List ℕ) → Keeps file ↔ (number-shown (shown file) ≡
 
 -- §9.6 the numbers that a file can meet, 0 with them; 21 and 23 are none
 unfoldable pub in-a-file : (number : ℕ) → Bool
-in-a-file n = leb n 9 || any-of (22 ∷ 24 ∷ 25 ∷ 26 ∷ 41 ∷ 42 ∷ 43 ∷ 44 ∷ 45 ∷ []) (eqb n)
+in-a-file n = leb n 9 || any-of (22 ∷ 24 ∷ 25 ∷ 26 ∷ 41 ∷ 42 ∷ 43 ∷ 44 ∷ 45 ∷ 53 ∷ []) (eqb n)
 
 -- §9.6 a file meets no others
 unfoldable pub Numbers-met : Type 0

@@ -1,9 +1,9 @@
 -- Wall files that are turned away, each with its number and its offset, and with two faults the one that comes first. Each is the wall that
--- Cases.antt prints whole, with other bytes, cut short or longer; its fields stand at 0, 27, 78 and 82, and it ends at 257. Assumes nothing.
+-- Cases.antt prints whole, with other bytes, cut short or longer; its fields stand at 0, 27, 78 and 82, and it ends at 281. Assumes nothing.
 use mathlib.Core.Path.{_≡_}
 use mathlib.Core.List.{List, [], _∷_, _++_, map}
 use Prim.Native.Nat.{ℕ}
-use lib.ListN.{take}
+use lib.ListN.{replicate, take}
 use Rattle.steps.specs.Shown.{turned-away, number-shown}
 use Rattle.file.specs.Cases.{put, printed-file}
 use Rattle.file.specs.File.{shown}
@@ -48,9 +48,9 @@ fields-refused =
     ∷ cut 43 78 81
     ∷ cut 43 82 82
     ∷ cut 43 82 84
-    ∷ cut 43 82 256
-    ∷ case 44 257 (printed-file ++ (1 ∷ []))
-    ∷ case 44 257 (printed-file ++ printed-file)
+    ∷ cut 43 82 280
+    ∷ case 44 281 (printed-file ++ (1 ∷ []))
+    ∷ case 44 281 (printed-file ++ printed-file)
     -- 2^39 in the first column and in the last
     ∷ changed 45 27 30 (0 ∷ 0 ∷ 0 ∷ 128 ∷ 0 ∷ 0 ∷ 0 ∷ 0 ∷ [])
     ∷ changed 45 27 70 (0 ∷ 0 ∷ 0 ∷ 128 ∷ 0 ∷ 0 ∷ 0 ∷ 0 ∷ [])
@@ -75,16 +75,18 @@ settings-refused =
     ∷ changed 9 0 15 (0 ∷ 0 ∷ 0 ∷ 191 ∷ [])
     ∷ []
 
--- §9.6 22 and 24 to 26, at the place of tag 4: a mark in column 6, marks in columns 0 and 1, a drift of 1 in the last tile, and a delay of 101,
--- of 89 and of 2^64 - 1
+-- §9.6 22, 24 to 26 and 53 (§E4.4), at the place of tag 4: a mark in column 6, marks in columns 0 and 1, a drift of 1 in the last tile, a phase of 1,000,000
+-- in the first and in the last, and a delay of 101, of 89 and of 2^64 - 1
 unfoldable pub row-refused : List Case
 row-refused =
     changed 22 82 81 (64 ∷ [])
     ∷ changed 24 82 81 (3 ∷ [])
-    ∷ changed 25 82 231 (0 ∷ 1 ∷ [])
-    ∷ changed 26 82 94 (101 ∷ [])
-    ∷ changed 26 82 256 (89 ∷ [])
-    ∷ changed 26 82 87 (255 ∷ 255 ∷ 255 ∷ 255 ∷ 255 ∷ 255 ∷ 255 ∷ 255 ∷ [])
+    ∷ changed 25 82 251 (0 ∷ 1 ∷ [])
+    ∷ changed 53 82 87 (0 ∷ 15 ∷ 66 ∷ 64 ∷ [])
+    ∷ changed 53 82 253 (0 ∷ 15 ∷ 66 ∷ 64 ∷ [])
+    ∷ changed 26 82 98 (101 ∷ [])
+    ∷ changed 26 82 280 (89 ∷ [])
+    ∷ changed 26 82 91 (255 ∷ 255 ∷ 255 ∷ 255 ∷ 255 ∷ 255 ∷ 255 ∷ 255 ∷ [])
     ∷ []
 
 -- §9.7 where two apply: tag and length missing, then the tag, the length, the body, and only then what a field holds, tag 3's with tag 4's
@@ -101,19 +103,25 @@ order-kept =
     ∷ case 41 82 (take 82 printed-file ++ (9 ∷ 9 ∷ 9 ∷ []))
     -- another length, and no body
     ∷ case 42 0 (1 ∷ 0 ∷ 25 ∷ [])
-    ∷ case 42 82 (take 82 printed-file ++ (4 ∷ 0 ∷ 171 ∷ []))
+    ∷ case 42 82 (take 82 printed-file ++ (4 ∷ 0 ∷ 195 ∷ []))
+    -- a tag 4 without phases (§E4.4)
+    ∷ case 42 82 (take 82 printed-file ++ (4 ∷ 0 ∷ 172 ∷ replicate 172 0))
     -- W is 5, and tag 2 is another; a row 0 time is late, and tag 3 is another
     ∷ case 1 0 (put 3 (0 ∷ 5 ∷ []) (put 27 (9 ∷ []) printed-file))
     ∷ case 45 27 (put 33 (128 ∷ []) (put 78 (9 ∷ []) printed-file))
     -- a mark in column 6, and tag 4 is another, has another length, or is missing
     ∷ changed 41 82 81 (64 ∷ 5 ∷ [])
-    ∷ changed 42 82 81 (64 ∷ 4 ∷ 0 ∷ 171 ∷ [])
+    ∷ changed 42 82 81 (64 ∷ 4 ∷ 0 ∷ 195 ∷ [])
     ∷ case 43 82 (take 82 (put 81 (64 ∷ []) printed-file))
-    ∷ case 43 82 (take 256 (put 81 (64 ∷ []) printed-file))
-    -- marks in columns 6, 0 and 1, a drift of 1 and a delay of 101; without the mark in column 6; without marks
-    ∷ case 22 82 (put 81 (67 ∷ []) (put 231 (0 ∷ 1 ∷ []) (put 94 (101 ∷ []) printed-file)))
-    ∷ case 24 82 (put 81 (3 ∷ []) (put 231 (0 ∷ 1 ∷ []) (put 94 (101 ∷ []) printed-file)))
-    ∷ case 25 82 (put 231 (0 ∷ 1 ∷ []) (put 94 (101 ∷ []) printed-file))
+    ∷ case 43 82 (take 280 (put 81 (64 ∷ []) printed-file))
+    -- marks in columns 6, 0 and 1, a drift of 1 and a phase of 1,000,000 in the last tile, and a delay of 101 in the first; without the mark in column 6;
+    -- without marks; without the drift
+    ∷ case 22 82 (put 81 (67 ∷ []) (put 251 (0 ∷ 1 ∷ 0 ∷ 15 ∷ 66 ∷ 64 ∷ []) (put 98 (101 ∷ []) printed-file)))
+    ∷ case 24 82 (put 81 (3 ∷ []) (put 251 (0 ∷ 1 ∷ 0 ∷ 15 ∷ 66 ∷ 64 ∷ []) (put 98 (101 ∷ []) printed-file)))
+    ∷ case 25 82 (put 251 (0 ∷ 1 ∷ 0 ∷ 15 ∷ 66 ∷ 64 ∷ []) (put 98 (101 ∷ []) printed-file))
+    ∷ case 53 82 (put 253 (0 ∷ 15 ∷ 66 ∷ 64 ∷ []) (put 98 (101 ∷ []) printed-file))
+    -- a drift of 1 in the last tile, and a phase of 1,000,000 in the first
+    ∷ case 25 82 (put 251 (0 ∷ 1 ∷ []) (put 87 (0 ∷ 15 ∷ 66 ∷ 64 ∷ []) printed-file))
     -- a row that is turned away, and a byte more
     ∷ case 22 82 (put 81 (64 ∷ []) printed-file ++ (1 ∷ []))
     ∷ []
@@ -134,3 +142,7 @@ Latest-start-met =
     number-shown
     (shown (put 30 (latest-start ++ latest-start ++ latest-start ++ latest-start ++ latest-start ++ latest-start) printed-file))
     ≡ 0
+
+-- §E4.3 a phase of 999,999 in the first tile and in the last is accepted
+unfoldable pub Largest-phase-met : Type 0
+Largest-phase-met = number-shown (shown (put 87 (0 ∷ 15 ∷ 66 ∷ 63 ∷ []) (put 253 (0 ∷ 15 ∷ 66 ∷ 63 ∷ []) printed-file))) ≡ 0

@@ -14,7 +14,7 @@ use Rattle.steps.specs.Step.{step-of}
 pub record Stood (p : Place) : Type 0 where
   pub pass : settings-refusal (p .settings) ≡ 0
   pub row : p .row ≤ p .settings .rows
-  pub offset : p .offset ≤ 2078 + 6710 * p .row
+  pub offset : p .offset ≤ 2078 + 7734 * p .row
 
 -- §17.3 a wall that steps leave
 unfoldable pub Stands : Wall → Type 0

@@ -95,7 +95,7 @@ unfoldable pub Due-cases : Type 0
 Due-cases =
     (due-of (wall-in (widest-words 0)) ≡ 27)
     × (due-of (wall-in (widest-words 1)) ≡ 2051)
-    × (due-of (wall-in (widest-words 2)) ≡ 6710)
+    × (due-of (wall-in (widest-words 2)) ≡ 7734)
     × (due-of (wall-in (widest-words 3)) ≡ 1)
     × (due-of (wall-in (widest-words 4)) ≡ 0)
     × (width-of (wall-in (widest-words 0)) ≡ 0)
@@ -108,8 +108,8 @@ unfoldable pub Takes-cases : Type 0
 Takes-cases =
     (takes (widest-words 0) 27 ≡ true)
     × (takes (widest-words 0) 28 ≡ false)
-    × (takes (widest-words 2) 6710 ≡ true)
-    × (takes (widest-words 2) 6711 ≡ false)
+    × (takes (widest-words 2) 7734 ≡ true)
+    × (takes (widest-words 2) 7735 ≡ false)
     × (takes (widest-words 3) 2 ≡ false)
     × (takes (widest-words 4) 0 ≡ true)
     × (takes (widest-words 4) 1 ≡ false)

@@ -55,15 +55,16 @@ pub extern "C" fn polzaintu_row(
     before: &[u64],
     marks: &[u8],
     drifts: &[u32],
+    phases: &[u32],
     links: &[u64],
     times: &mut [u64],
     letters: &mut [u8],
     ends: &mut [u64; 2],
 ) -> u32
-    ensures number { λ r. ⌜ r ≡ Row·number-of (planned (settings-from 0 (now (settings .entry))) (now (before .entry)) (call (now (marks .entry)) (now (drifts .entry)) (now (links .entry)) (length (now (times .entry))) (length (now (letters .entry))))) ⌝ }
-    ensures times { λ r. ⌜ now (times .exit) ≡ written (settings-from 0 (now (settings .entry))) (now (before .entry)) (call (now (marks .entry)) (now (drifts .entry)) (now (links .entry)) (length (now (times .entry))) (length (now (letters .entry)))) (now (times .entry)) ⌝ }
-    ensures letters { λ r. ⌜ now (letters .exit) ≡ lettered (settings-from 0 (now (settings .entry))) (now (before .entry)) (call (now (marks .entry)) (now (drifts .entry)) (now (links .entry)) (length (now (times .entry))) (length (now (letters .entry)))) (now (letters .entry)) ⌝ }
-    ensures ends { λ r. ⌜ now (ends .exit) ≡ ends-left (planned (settings-from 0 (now (settings .entry))) (now (before .entry)) (call (now (marks .entry)) (now (drifts .entry)) (now (links .entry)) (length (now (times .entry))) (length (now (letters .entry))))) (now (ends .entry)) ⌝ }
+    ensures number { λ r. ⌜ r ≡ Row·number-of (planned (settings-from 0 (now (settings .entry))) (now (before .entry)) (call (now (marks .entry)) (now (drifts .entry)) (now (phases .entry)) (now (links .entry)) (length (now (times .entry))) (length (now (letters .entry))))) ⌝ }
+    ensures times { λ r. ⌜ now (times .exit) ≡ written (settings-from 0 (now (settings .entry))) (now (before .entry)) (call (now (marks .entry)) (now (drifts .entry)) (now (phases .entry)) (now (links .entry)) (length (now (times .entry))) (length (now (letters .entry)))) (now (times .entry)) ⌝ }
+    ensures letters { λ r. ⌜ now (letters .exit) ≡ lettered (settings-from 0 (now (settings .entry))) (now (before .entry)) (call (now (marks .entry)) (now (drifts .entry)) (now (phases .entry)) (now (links .entry)) (length (now (times .entry))) (length (now (letters .entry)))) (now (letters .entry)) ⌝ }
+    ensures ends { λ r. ⌜ now (ends .exit) ≡ ends-left (planned (settings-from 0 (now (settings .entry))) (now (before .entry)) (call (now (marks .entry)) (now (drifts .entry)) (now (phases .entry)) (now (links .entry)) (length (now (times .entry))) (length (now (letters .entry))))) (now (ends .entry)) ⌝ }
 {
     calls::ends_left(
         row::plan(
@@ -71,6 +72,7 @@ pub extern "C" fn polzaintu_row(
             before,
             marks,
             drifts,
+            phases,
             links,
             times,
             letters,
@@ -316,7 +318,7 @@ pub extern "C" fn polzaintu_waves_ask(
 // The version as one number.
 #[no_mangle]
 pub extern "C" fn polzaintu_version() -> u32
-    ensures { λ r. ⌜ r ≡ 4000 ⌝ }
+    ensures { λ r. ⌜ r ≡ 5000 ⌝ }
 {
     version::NUMBER
 }

@@ -48,7 +48,7 @@ fn run_in(
     letters: &mut [u8],
     output: &mut [u8],
 ) -> Outcome
-    requires { ⌜ Tables (now tables) × (770 ≤ length (now links)) × (6710 ≤ length (now input)) × (256 ≤ length (now row)) × (256 ≤ length (now letters)) × (step-room ≤ length (now output)) ⌝ }
+    requires { ⌜ Tables (now tables) × (770 ≤ length (now links)) × (7734 ≤ length (now input)) × (256 ≤ length (now row)) × (256 ≤ length (now letters)) × (step-room ≤ length (now output)) ⌝ }
     ensures { λ r. ⌜ Ends lines-step tt r tt (pulses (now (row .exit)) (now (letters .exit))) (now (output .exit)) ⌝ }
 {
     let mut state = State::start();

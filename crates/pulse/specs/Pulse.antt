@@ -6,6 +6,7 @@ use lib.ListN.{getD}
 use Rattle.rule.specs.Clock.{reads}
 use Rattle.rule.specs.Stamp.{Stamp, heard, silent, stamp-of}
 use Rattle.rule.specs.Pulse.{tile-pulse, tile-letter}
+use Rattle.rule.specs.declared.clock.Clock.{Clock}
 use Rattle.rule.specs.declared.letter.Letter.{Letter}
 use Rattle.settings.specs.declared.Settings.{Settings}
 use Rattle.columns.specs.Columns.{neighbours, link}
@@ -26,15 +27,19 @@ unfoldable pub read-at : (drift phase : ℕ) → Stamp → Stamp
 read-at p q (heard a) = heard (reads p q a)
 read-at p q silent = silent
 
+-- §E4.1 the clock of a tile, by the drifts and phases of its row
+abbrev pub clock-of : (drifts phases : List ℕ) → (tile : ℕ) → Clock
+clock-of ds qs c = record { drift = getD ds c 0; phase = getD qs c 0 }
+
 -- §3.3 the stamp that a tile has of a sender
 unfoldable pub stamp : (w : ℕ) → (before : List ℕ) → Call → (tile sender : ℕ) → Stamp
-stamp w ts x c k = read-at (getD (x .drifts) c 0) 0 (arrival w ts x c k)
+stamp w ts x c k = read-at (getD (x .drifts) c 0) (getD (x .phases) c 0) (arrival w ts x c k)
 
 -- §7.6 a tile's pulse, by its stamps of own and of the neighbours
 unfoldable pub pulse : Settings → (before : List ℕ) → Call → (tile : ℕ) → ℕ
 pulse s ts x c =
     let w = s .width in
-    tile-pulse s (getD (x .drifts) c 0) 0 (stamp w ts x c c) (map (stamp w ts x c) (neighbours w c))
+    tile-pulse s (getD (x .drifts) c 0) (getD (x .phases) c 0) (stamp w ts x c c) (map (stamp w ts x c) (neighbours w c))
 
 -- §E3.4 the letter of a tile, by the same stamps
 unfoldable pub letter-at : Settings → (before : List ℕ) → Call → (tile : ℕ) → Letter

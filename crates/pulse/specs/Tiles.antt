@@ -48,5 +48,5 @@ unfoldable pub Tiles-accepted : Type 0
 Tiles-accepted =
     (s : Settings) (ts : List ℕ) (x : Call) (c : ℕ) → row-refusal s ts x ≡ 0 → c < s .width →
     let st = tile-stamps s ts x c in
-    (tile-refusal s st ≡ 0) × (pulse s ts x c ≡ first-tick (getD (x .drifts) c 0) 0 (tile-P s (own-stamp st) (neighbour-stamps st) + s .hold))
+    (tile-refusal s st ≡ 0) × (pulse s ts x c ≡ first-tick (getD (x .drifts) c 0) (getD (x .phases) c 0) (tile-P s (own-stamp st) (neighbour-stamps st) + s .hold))
     × (letter-of (forwarded s st) ≡ some (letter-at s ts x c))

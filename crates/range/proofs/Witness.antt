@@ -21,14 +21,14 @@ use Rattle.columns.specs.Columns.{are-neighbours, columns-from, neighbours, is-
 use Rattle.columns.specs.Marks.{marked, mark-bytes, faulty-among}
 use Rattle.links.specs.Links.{bad-value, bad-link, bad-links}
 use Rattle.admission.specs.Call.{Call, call}
-use Rattle.admission.specs.Refusal.{lengths-are, lengths-right, stray-mark, late-time, crowded, fast, row-tests, row-refusal}
+use Rattle.admission.specs.Refusal.{lengths-are, lengths-right, stray-mark, late-time, crowded, over, row-tests, row-refusal}
 use Rattle.pulse.specs.Pulse.{arrives, arrival, read-at, stamp, pulse}
 use Rattle.row.specs.Row.{row-of}
 use Rattle.runs.specs.Run.{rows, call-at, row-at}
 use Rattle.runs.specs.Reach.{Alike}
 use Rattle.fields.specs.Bytes.{big-endian}
 use Rattle.fields.specs.Field.{field-tests, field-refusal, body, or-else}
-use Rattle.contents.specs.Contents.{settings-in, times-in, late-start, tile-place, drifts-in, tile-links, links-below, links-in, marks-field, row-size, marks-in, tiles-in, call-in}
+use Rattle.contents.specs.Contents.{settings-in, times-in, late-start, tile-place, drifts-in, phases-in, tile-links, links-below, links-in, marks-field, row-size, marks-in, tiles-in, call-in}
 use Rattle.steps.specs.Number.{settings-number, start-number, row-number, row-offset}
 use Rattle.steps.specs.Shown.{row-shown, no-marks, number-shown}
 use Rattle.file.specs.Cases.{put, printed-file}
@@ -42,11 +42,11 @@ use Rattle.range.proofs.Cases.{printed-cases, read-cases}
 
 -- neither is turned away
 first-accepted : number-shown (shown printed-file) ≡ 0
-unfolding printed-file put at-1000 broken-file shown start-shown rows-shown row-shown no-marks number-shown settings-number start-number row-number row-offset call-in tiles-in marks-in row-size marks-field links-in links-below tile-links drifts-in tile-place late-start times-in settings-in or-else body field-refusal field-tests big-endian row-of stamp read-at arrival arrives pulse row-refusal row-tests fast crowded late-time stray-mark lengths-right lengths-are call bad-links bad-link bad-value faulty-among mark-bytes marked any-of table-from link link-place place-in links-before predecessors is-predecessor neighbours columns-from are-neighbours tile-pulse tile-P P heard-correction D least-to larger-at stamp-of latest earliest later earlier natural smaller larger first-tick reads settings-refusal settings-tests drift-cost step-of step settings up any-below outside first
+unfolding printed-file put at-1000 broken-file shown start-shown rows-shown row-shown no-marks number-shown settings-number start-number row-number row-offset call-in tiles-in marks-in row-size marks-field links-in links-below tile-links phases-in drifts-in tile-place late-start times-in settings-in or-else body field-refusal field-tests big-endian row-of stamp read-at arrival arrives pulse row-refusal row-tests over crowded late-time stray-mark lengths-right lengths-are call bad-links bad-link bad-value faulty-among mark-bytes marked any-of table-from link link-place place-in links-before predecessors is-predecessor neighbours columns-from are-neighbours tile-pulse tile-P P heard-correction D least-to larger-at stamp-of latest earliest later earlier natural smaller larger first-tick reads settings-refusal settings-tests drift-cost step-of step settings up any-below outside first
 first-accepted = refl
 
 second-accepted : number-shown (shown broken-file) ≡ 0
-unfolding printed-file put at-1000 broken-file shown start-shown rows-shown row-shown no-marks number-shown settings-number start-number row-number row-offset call-in tiles-in marks-in row-size marks-field links-in links-below tile-links drifts-in tile-place late-start times-in settings-in or-else body field-refusal field-tests big-endian row-of stamp read-at arrival arrives pulse row-refusal row-tests fast crowded late-time stray-mark lengths-right lengths-are call bad-links bad-link bad-value faulty-among mark-bytes marked any-of table-from link link-place place-in links-before predecessors is-predecessor neighbours columns-from are-neighbours tile-pulse tile-P P heard-correction D least-to larger-at stamp-of latest earliest later earlier natural smaller larger first-tick reads settings-refusal settings-tests drift-cost step-of step settings up any-below outside first
+unfolding printed-file put at-1000 broken-file shown start-shown rows-shown row-shown no-marks number-shown settings-number start-number row-number row-offset call-in tiles-in marks-in row-size marks-field links-in links-below tile-links phases-in drifts-in tile-place late-start times-in settings-in or-else body field-refusal field-tests big-endian row-of stamp read-at arrival arrives pulse row-refusal row-tests over crowded late-time stray-mark lengths-right lengths-are call bad-links bad-link bad-value faulty-among mark-bytes marked any-of table-from link link-place place-in links-before predecessors is-predecessor neighbours columns-from are-neighbours tile-pulse tile-P P heard-correction D least-to larger-at stamp-of latest earliest later earlier natural smaller larger first-tick reads settings-refusal settings-tests drift-cost step-of step settings up any-below outside first
 second-accepted = refl
 
 -- what they describe
@@ -54,31 +54,31 @@ wall : Settings
 wall = settings 6 1 100 10 400 0 12
 
 sound : Call
-sound = call (0 ∷ []) (replicate 6 0) (replicate 20 100) 6 6
+sound = call (0 ∷ []) (replicate 6 0) (replicate 6 0) (replicate 20 100) 6 6
 
 broken : Call
 broken =
-    call (8 ∷ []) (replicate 6 0)
+    call (8 ∷ []) (replicate 6 0) (replicate 6 0)
     (100 ∷ 100 ∷ 100 ∷ 100 ∷ 100 ∷ 100 ∷ 100 ∷ 100 ∷ 100 ∷ 1000 ∷ 100 ∷ 1000 ∷ 100 ∷ 100 ∷ 1000 ∷ 100 ∷ 100 ∷ 1000 ∷ 100 ∷ 100 ∷ []) 6 6
 
 first-settings : settings-of printed-file ≡ wall
-unfolding printed-file put at-1000 broken-file settings-of after-settings start-of after-start calls-in calls-of call-in tiles-in marks-in row-size marks-field links-in links-below tile-links drifts-in tile-place times-in settings-in body big-endian call mark-bytes table-from links-before predecessors is-predecessor columns-from are-neighbours settings wall
+unfolding printed-file put at-1000 broken-file settings-of after-settings start-of after-start calls-in calls-of call-in tiles-in marks-in row-size marks-field links-in links-below tile-links phases-in drifts-in tile-place times-in settings-in body big-endian call mark-bytes table-from links-before predecessors is-predecessor columns-from are-neighbours settings wall
 first-settings = refl
 
 second-settings : settings-of broken-file ≡ wall
-unfolding printed-file put at-1000 broken-file settings-of after-settings start-of after-start calls-in calls-of call-in tiles-in marks-in row-size marks-field links-in links-below tile-links drifts-in tile-place times-in settings-in body big-endian call mark-bytes table-from links-before predecessors is-predecessor columns-from are-neighbours settings wall
+unfolding printed-file put at-1000 broken-file settings-of after-settings start-of after-start calls-in calls-of call-in tiles-in marks-in row-size marks-field links-in links-below tile-links phases-in drifts-in tile-place times-in settings-in body big-endian call mark-bytes table-from links-before predecessors is-predecessor columns-from are-neighbours settings wall
 second-settings = refl
 
 same-start : start-of printed-file ≡ start-of broken-file
-unfolding printed-file put at-1000 broken-file settings-of after-settings start-of after-start calls-in calls-of call-in tiles-in marks-in row-size marks-field links-in links-below tile-links drifts-in tile-place times-in settings-in body big-endian call mark-bytes table-from links-before predecessors is-predecessor columns-from are-neighbours settings
+unfolding printed-file put at-1000 broken-file settings-of after-settings start-of after-start calls-in calls-of call-in tiles-in marks-in row-size marks-field links-in links-below tile-links phases-in drifts-in tile-place times-in settings-in body big-endian call mark-bytes table-from links-before predecessors is-predecessor columns-from are-neighbours settings
 same-start = refl
 
 first-calls : calls-of printed-file ≡ sound ∷ []
-unfolding printed-file put at-1000 broken-file settings-of after-settings start-of after-start calls-in calls-of call-in tiles-in marks-in row-size marks-field links-in links-below tile-links drifts-in tile-place times-in settings-in body big-endian call mark-bytes table-from links-before predecessors is-predecessor columns-from are-neighbours settings sound
+unfolding printed-file put at-1000 broken-file settings-of after-settings start-of after-start calls-in calls-of call-in tiles-in marks-in row-size marks-field links-in links-below tile-links phases-in drifts-in tile-place times-in settings-in body big-endian call mark-bytes table-from links-before predecessors is-predecessor columns-from are-neighbours settings sound
 first-calls = refl
 
 second-calls : calls-of broken-file ≡ broken ∷ []
-unfolding printed-file put at-1000 broken-file settings-of after-settings start-of after-start calls-in calls-of call-in tiles-in marks-in row-size marks-field links-in links-below tile-links drifts-in tile-place times-in settings-in body big-endian call mark-bytes table-from links-before predecessors is-predecessor columns-from are-neighbours settings broken
+unfolding printed-file put at-1000 broken-file settings-of after-settings start-of after-start calls-in calls-of call-in tiles-in marks-in row-size marks-field links-in links-below tile-links phases-in drifts-in tile-place times-in settings-in body big-endian call mark-bytes table-from links-before predecessors is-predecessor columns-from are-neighbours settings broken
 second-calls = refl
 
 -- the two calls differ in the mark of column 3 and in its links alone
@@ -116,6 +116,7 @@ alike =
     record {
       as-many = refl;
       drifts = λ l i. rw (only-call sound l i, only-call broken l i) (unfold sound broken call in refl);
+      phases = λ l i. rw (only-call sound l i, only-call broken l i) (unfold sound broken call in refl);
       first-clean = λ l c i j. rw (only-call sound l i) (none-below (λ c. marked (sound .marks) c) 6 c j marks-checked);
       marks = λ l c i j. let here : l ≡ 0 = omega arith in
           rw (only-call broken l i, here) (beq-true (marked (broken .marks) c) (eqb c 3) (unfold mark-differs in none-below mark-differs 6 c j faults-checked));
@@ -130,11 +131,11 @@ alike =
     same-of c j p q e = not-false _ (unfold link-differs in (rw (p, q) at e))
 
 first-pulse : pulse-of printed-file 1 3 ≡ 1536
-unfolding pulse-of rows-of rows row-at printed-file put at-1000 broken-file settings-of after-settings start-of after-start calls-in calls-of settings-number start-number row-number row-offset call-in tiles-in marks-in row-size marks-field links-in links-below tile-links drifts-in tile-place late-start times-in settings-in or-else body field-refusal field-tests big-endian row-of stamp read-at arrival arrives pulse row-refusal row-tests fast crowded late-time stray-mark lengths-right lengths-are call bad-links bad-link bad-value faulty-among mark-bytes marked any-of table-from link link-place place-in links-before predecessors is-predecessor neighbours columns-from are-neighbours tile-pulse tile-P P heard-correction D least-to larger-at stamp-of latest earliest later earlier natural smaller larger first-tick reads settings-refusal settings-tests drift-cost step-of step settings up any-below outside first
+unfolding pulse-of rows-of rows row-at printed-file put at-1000 broken-file settings-of after-settings start-of after-start calls-in calls-of settings-number start-number row-number row-offset call-in tiles-in marks-in row-size marks-field links-in links-below tile-links phases-in drifts-in tile-place late-start times-in settings-in or-else body field-refusal field-tests big-endian row-of stamp read-at arrival arrives pulse row-refusal row-tests over crowded late-time stray-mark lengths-right lengths-are call bad-links bad-link bad-value faulty-among mark-bytes marked any-of table-from link link-place place-in links-before predecessors is-predecessor neighbours columns-from are-neighbours tile-pulse tile-P P heard-correction D least-to larger-at stamp-of latest earliest later earlier natural smaller larger first-tick reads settings-refusal settings-tests drift-cost step-of step settings up any-below outside first
 first-pulse = refl
 
 second-pulse : pulse-of broken-file 1 3 ≡ 1464
-unfolding pulse-of rows-of rows row-at printed-file put at-1000 broken-file settings-of after-settings start-of after-start calls-in calls-of settings-number start-number row-number row-offset call-in tiles-in marks-in row-size marks-field links-in links-below tile-links drifts-in tile-place late-start times-in settings-in or-else body field-refusal field-tests big-endian row-of stamp read-at arrival arrives pulse row-refusal row-tests fast crowded late-time stray-mark lengths-right lengths-are call bad-links bad-link bad-value faulty-among mark-bytes marked any-of table-from link link-place place-in links-before predecessors is-predecessor neighbours columns-from are-neighbours tile-pulse tile-P P heard-correction D least-to larger-at stamp-of latest earliest later earlier natural smaller larger first-tick reads settings-refusal settings-tests drift-cost step-of step settings up any-below outside first
+unfolding pulse-of rows-of rows row-at printed-file put at-1000 broken-file settings-of after-settings start-of after-start calls-in calls-of settings-number start-number row-number row-offset call-in tiles-in marks-in row-size marks-field links-in links-below tile-links phases-in drifts-in tile-place late-start times-in settings-in or-else body field-refusal field-tests big-endian row-of stamp read-at arrival arrives pulse row-refusal row-tests over crowded late-time stray-mark lengths-right lengths-are call bad-links bad-link bad-value faulty-among mark-bytes marked any-of table-from link link-place place-in links-before predecessors is-predecessor neighbours columns-from are-neighbours tile-pulse tile-P P heard-correction D least-to larger-at stamp-of latest earliest later earlier natural smaller larger first-tick reads settings-refusal settings-tests drift-cost step-of step settings up any-below outside first
 second-pulse = refl
 
 files : Two-files printed-file broken-file 0 3

@@ -13,13 +13,13 @@ at-1000 = 0 ∷ 0 ∷ 0 ∷ 0 ∷ 0 ∷ 0 ∷ 3 ∷ 232 ∷ []
 
 -- §1.4 the wall of §14.4 with its tile of column 3 broken: it is marked, and arrives at tiles 2 to 5 at 1000
 unfoldable pub broken-file : List ℕ
-broken-file = put 81 (8 ∷ []) (put 163 at-1000 (put 181 at-1000 (put 207 at-1000 (put 233 at-1000 printed-file))))
+broken-file = put 81 (8 ∷ []) (put 175 at-1000 (put 197 at-1000 (put 227 at-1000 (put 257 at-1000 printed-file))))
 
 -- §15.4 the printed wall where row 1 is asked for, and with a byte more; the broken one; no bytes
 unfoldable pub Printed-cases : Type 0
 Printed-cases =
     (search-text (1 ∷ []) printed-file ≡ printed ("b 0 80" ∷ "r 0 1 256 1" ∷ "largest 256 ticks" ∷ []))
-    × (search-text [] (printed-file ++ (0 ∷ [])) ≡ printed ("b 0 80" ∷ "refused 44 at 257" ∷ []))
+    × (search-text [] (printed-file ++ (0 ∷ [])) ≡ printed ("b 0 80" ∷ "refused 44 at 281" ∷ []))
     × (search-text (1 ∷ []) broken-file ≡ printed ("faulty 0 3" ∷ []))
     × (search-text [] [] ≡ printed ("refused 43 at 0" ∷ []))
 

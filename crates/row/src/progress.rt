@@ -1,6 +1,7 @@
 // A row as it is filled, from its first column on.
 use columns::plain;
 use pulse::Pulsed;
+use pulse::clock;
 use pulse::correct;
 use pulse::pulse;
 use rule::forwarding::SILENT;
@@ -66,25 +67,27 @@ pub fn further(
     before: &[u64],
     marks: &[u8],
     drifts: &[u32],
+    phases: &[u32],
     links: &[u64],
     times: &mut [u64],
     letters: &mut [u8],
     done: Progress,
 ) -> Progress
-    requires { ⌜ (row-refusal settings (now before) (call (now marks) (now drifts) (now links) (settings .width) (settings .width)) ≡ 0) × (step ≡ step-of settings) × (length (now times) ≡ settings .width) × (length (now letters) ≡ settings .width) × (done .next < settings .width) ⌝ }
-    requires { ⌜ So-far settings (now before) (call (now marks) (now drifts) (now links) (settings .width) (settings .width)) (pulses (now times) (now letters)) (pulses (now times) (now letters)) done ⌝ }
-    ensures filled { λ r. ⌜ So-far settings (now (before .entry)) (call (now (marks .entry)) (now (drifts .entry)) (now (links .entry)) (settings .width) (settings .width)) (pulses (now (times .entry)) (now (letters .entry))) (pulses (now (times .exit)) (now (letters .exit))) r ⌝ }
+    requires { ⌜ (row-refusal settings (now before) (call (now marks) (now drifts) (now phases) (now links) (settings .width) (settings .width)) ≡ 0) × (step ≡ step-of settings) × (length (now times) ≡ settings .width) × (length (now letters) ≡ settings .width) × (done .next < settings .width) ⌝ }
+    requires { ⌜ So-far settings (now before) (call (now marks) (now drifts) (now phases) (now links) (settings .width) (settings .width)) (pulses (now times) (now letters)) (pulses (now times) (now letters)) done ⌝ }
+    ensures filled { λ r. ⌜ So-far settings (now (before .entry)) (call (now (marks .entry)) (now (drifts .entry)) (now (phases .entry)) (now (links .entry)) (settings .width) (settings .width)) (pulses (now (times .entry)) (now (letters .entry))) (pulses (now (times .exit)) (now (letters .exit))) r ⌝ }
     ensures onward { λ r. ⌜ done .next < r .next ⌝ }
 {
     let first = done.next;
     if !plain(before.len(), marks, first) {
-        let pulsed = pulse(settings, step, before, marks, drifts, links, first);
+        let pulsed = pulse(settings, step, before, marks, drifts, phases, links, first);
         return done.put(pulsed, times, letters);
     }
     let mut so_far = done;
     while so_far.next < first + 8 {
         let c = so_far.next;
-        let pulsed = correct(settings, step, drifts[c] as u64, before, links, c);
+        let clock = clock(drifts, phases, c);
+        let pulsed = correct(settings, step, clock, before, links, c);
         so_far = so_far.put(pulsed, times, letters);
     }
     so_far

@@ -1,7 +1,6 @@
 // Runs rows through the row operation, as the file `stdin` lists them: faulty senders that are early,
-// late and silent at the columns of either end, for several widths, a call for each number and the
-// order between them, and one at each tie between two letters (§E3.1).
-mod handed;
+// late and silent at the columns of either end, for several widths, with phases and without (§E4.1), a
+// call for each number and the order between them, and one at each tie between two letters (§E3.1).
 mod letters;
 mod plan;
 
@@ -39,20 +38,24 @@ fn case(line: &[u8]) {
             cases::label(line);
             write(given, n.0);
         } else {
-            let right = right(n.12, n.13, given);
+            let right = right(n.14, n.15, given);
             cases::report(line, kind == b'p' && fits && right);
         }
     }
 }
 
 // Whether a case has its numbers, and those that are not times or link values fit: a width and a
-// column of it, or a call's lengths, mark and drift.
+// column of it and a step of phases, or a call's lengths, mark, drift and phase.
 fn fits(kind: u8, count: usize, n: Numbers) -> bool {
     match kind {
-        b'f' => count == 3 && n.0 <= 256 && n.1 < n.0,
-        b'p' => count == 14 && (n.0 | n.1 | n.2 | n.3 | n.4 | n.5 | n.9) < 1024 && n.8 < 256,
+        b'f' => count == 4 && n.0 <= 256 && n.1 < n.0 && n.3 < 1_000_000,
+        b'p' => count == 16 && lengths_fit(n) && n.9 < 256 && (n.10 | n.11) < 4_294_967_296,
         _ => false,
     }
+}
+
+fn lengths_fit(n: Numbers) -> bool {
+    (n.0 | n.1 | n.2 | n.3 | n.4 | n.5 | n.6) < 1024
 }
 
 // Whether a call was turned away with the number that is expected, which leaves the sevens that the

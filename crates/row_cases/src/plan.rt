@@ -1,10 +1,10 @@
 // One call of the row operation, and what is seen of it.
-use crate::handed::drifts;
-use crate::handed::links;
-use crate::handed::marks;
-use crate::handed::times;
 use cases::Numbers;
 use row::Planned;
+use row_inputs::links;
+use row_inputs::marks;
+use row_inputs::stepping;
+use row_inputs::times;
 use settings::Settings;
 ghost use Prim.Native.Nat.{_<_};
 
@@ -27,6 +27,7 @@ struct Sizes {
     times: usize,
     marks: usize,
     drifts: usize,
+    phases: usize,
     links: usize,
     room: usize,
     letters: usize,
@@ -34,7 +35,7 @@ struct Sizes {
 }
 
 fn sized(kind: u8, n: Numbers) -> Sizes
-    ensures { λ r. ⌜ (r .times < 1024) × (r .marks < 1024) × (r .drifts < 1024) × (r .links < 1024) × (r .room < 1024) × (r .letters < 1024) ⌝ }
+    ensures { λ r. ⌜ (r .times < 1024) × (r .marks < 1024) × (r .drifts < 1024) × (r .phases < 1024) × (r .links < 1024) × (r .room < 1024) × (r .letters < 1024) ⌝ }
 {
     if kind == b'f' {
         return of_width((n.0 % 257) as usize);
@@ -44,22 +45,24 @@ fn sized(kind: u8, n: Numbers) -> Sizes
         times: (n.0 % 1024) as usize,
         marks: (n.1 % 1024) as usize,
         drifts: (n.2 % 1024) as usize,
-        links: (n.3 % 1024) as usize,
-        room: (n.4 % 1024) as usize,
-        letters: (n.5 % 1024) as usize,
+        phases: (n.3 % 1024) as usize,
+        links: (n.4 % 1024) as usize,
+        room: (n.5 % 1024) as usize,
+        letters: (n.6 % 1024) as usize,
         held: 7,
     }
 }
 
 fn of_width(w: usize) -> Sizes
     requires { ⌜ w < 257 ⌝ }
-    ensures { λ r. ⌜ (r .times < 1024) × (r .marks < 1024) × (r .drifts < 1024) × (r .links < 1024) × (r .room < 1024) × (r .letters < 1024) ⌝ }
+    ensures { λ r. ⌜ (r .times < 1024) × (r .marks < 1024) × (r .drifts < 1024) × (r .phases < 1024) × (r .links < 1024) × (r .room < 1024) × (r .letters < 1024) ⌝ }
 {
     Sizes {
         width: w as u64,
         times: w,
         marks: (w + 7) / 8,
         drifts: w,
+        phases: w,
         links: 3 * w + 2,
         room: w,
         letters: w,
@@ -83,9 +86,10 @@ fn wall(width: u64) -> Settings {
 // The call that a case makes.
 pub fn planned(kind: u8, n: Numbers) -> Outcome {
     let size = sized(kind, n);
-    let before = times(kind, n.6, n.7);
-    let marks = marks(kind, n.1, n.8);
-    let drifts = drifts(kind, n.9);
+    let before = times(kind, n.7, n.8);
+    let marks = marks(kind, n.1, n.9);
+    let drifts = stepping(kind, 13, 101, n.10);
+    let phases = stepping(kind, n.3 % 1_000_000, 1_000_000, n.11);
     let links = links(kind, n);
     let mut row = [size.held; 1024];
     let mut letters = [b'-'; 1024];
@@ -94,6 +98,7 @@ pub fn planned(kind: u8, n: Numbers) -> Outcome {
         &before[..size.times],
         &marks[..size.marks],
         &drifts[..size.drifts],
+        &phases[..size.phases],
         &links[..size.links],
         &mut row[..size.room],
         &mut letters[..size.letters],

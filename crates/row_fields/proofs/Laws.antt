@@ -16,7 +16,7 @@ use Rattle.admission.specs.Refusal.{row-refusal}
 use Rattle.row.proofs.Promises.{row-answered}
 use Rattle.row.specs.declared.Planned.{Planned}
 use Rattle.fields.specs.Field.{field-refusal, body}
-use Rattle.contents.specs.Contents.{marks-field, tiles-size, marks-in, tiles-in, drifts-in, links-in, call-in}
+use Rattle.contents.specs.Contents.{marks-field, tiles-size, marks-in, tiles-in, drifts-in, phases-in, links-in, call-in}
 use Rattle.row_fields.specs.Worked.{Plannable, Worked-out}
 use Rattle.fields.proofs.Laws.Field.{else-first, else-other, field-there}
 
@@ -29,14 +29,14 @@ module _ (w v : ℕ) (e : w ≡ v) (part : List ℕ) where
   abbrev at-tiles : List ℕ
   at-tiles = take (length part - (3 + (w + 7) / 8)) (drop (3 + (w + 7) / 8) part)
 
-  pub tiles-number : field-refusal 4 (26 * w + 16) at-tiles ≡ field-refusal 4 (tiles-size v) (drop (marks-field v) part)
+  pub tiles-number : field-refusal 4 (30 * w + 16) at-tiles ≡ field-refusal 4 (tiles-size v) (drop (marks-field v) part)
   unfolding marks-field mark-bytes
   tiles-number = rw (to-the-end (3 + (w + 7) / 8) part, e)
 
-  pub call-made : (room letters : ℕ) {marks drifts links tiles : List ℕ} → room ≡ v → letters ≡ v → marks ≡ body ((w + 7) / 8) part → tiles ≡ body (26 * w + 16) at-tiles →
-      drifts ≡ drifts-in w tiles → links ≡ links-in w tiles → call marks drifts links room letters ≡ call-in v part
+  pub call-made : (room letters : ℕ) {marks drifts phases links tiles : List ℕ} → room ≡ v → letters ≡ v → marks ≡ body ((w + 7) / 8) part → tiles ≡ body (30 * w + 16) at-tiles →
+      drifts ≡ drifts-in w tiles → phases ≡ phases-in w tiles → links ≡ links-in w tiles → call marks drifts phases links room letters ≡ call-in v part
   unfolding call-in marks-in tiles-in marks-field mark-bytes
-  call-made room letters r x m t d l = rw (d, l, t, m, r, x, to-the-end (3 + (w + 7) / 8) part, e)
+  call-made room letters r x m t d q l = rw (d, q, l, t, m, r, x, to-the-end (3 + (w + 7) / 8) part, e)
 
 module _ (s : Settings) (part before : List ℕ) (held : Pulses) (p : Plannable s part (length before) (length (held .times)) (length (held .letters))) where
   -- the marks are there

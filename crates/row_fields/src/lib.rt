@@ -21,46 +21,50 @@ pub fn plan(
     ensures { λ r. ⌜ Worked-out settings (now (part .entry)) (now (before .entry)) (pulses (now (times .entry)) (now (letters .entry))) r (pulses (now (times .exit)) (now (letters .exit))) ⌝ }
 {
     let width = before.len();
-    let mut drifts = drift_space();
+    let mut drifts = tile_space();
+    let mut phases = tile_space();
     plan_in(
         settings,
         part,
         before,
         &mut drifts[..width],
+        &mut phases[..width],
         &mut links[..3 * width + 2],
         times,
         letters,
     )
 }
 
-// With room for the drifts and the link values.
+// With room for the drifts, the phases and the link values.
 fn plan_in(
     settings: Settings,
     part: &[u8],
     before: &[u64],
     drifts: &mut [u32],
+    phases: &mut [u32],
     links: &mut [u64],
     times: &mut [u64],
     letters: &mut [u8],
 ) -> u32
     requires { ⌜ Plannable settings (now part) (length (now before)) (length (now times)) (length (now letters)) ⌝ }
-    requires { ⌜ (length (now drifts) ≡ settings .width) × (length (now links) ≡ 3 * settings .width + 2) ⌝ }
+    requires { ⌜ (length (now drifts) ≡ settings .width) × (length (now phases) ≡ settings .width) × (length (now links) ≡ 3 * settings .width + 2) ⌝ }
     ensures { λ r. ⌜ Worked-out settings (now (part .entry)) (now (before .entry)) (pulses (now (times .entry)) (now (letters .entry))) r (pulses (now (times .exit)) (now (letters .exit))) ⌝ }
 {
     let width = before.len();
     let marks = (width + 7) / 8;
-    let size = 26 * width + 16;
+    let size = 30 * width + 16;
     let rest = &part[3 + marks..];
     let number = fields::refusal(4, size, rest);
     if number != 0 {
         return number;
     }
-    contents::tiles(width, fields::body(size, rest), drifts, links);
+    contents::tiles(width, fields::body(size, rest), drifts, phases, links);
     let answer = row::plan(
         settings,
         before,
         fields::body(marks, part),
         drifts,
+        phases,
         links,
         times,
         letters,
@@ -74,7 +78,8 @@ fn plan_in(
     }
 }
 
-fn drift_space() -> [u32; 256]
+// Room for the drifts of any row, or for its phases.
+fn tile_space() -> [u32; 256]
     ensures { λ r. ⌜ 256 ≡ length r ⌝ }
 {
     [0; 256]
@@ -92,5 +97,5 @@ pub fn size(width: usize) -> usize
     requires { ⌜ width ≤ 256 ⌝ }
     ensures { λ r. ⌜ r ≡ row-size width ⌝ }
 {
-    3 + (width + 7) / 8 + (3 + (26 * width + 16))
+    3 + (width + 7) / 8 + (3 + (30 * width + 16))
 }

@@ -8,7 +8,7 @@ use Rattle.rule.specs.Stamp.{earlier, later, earliest, latest, stamp-of,
 use Rattle.rule.specs.Forward.{larger-at, least-to, D, heard-correction, P, correction}
 use Rattle.rule.specs.Letter.{early-or-kept, heard-letter, letter}
 use Rattle.rule.specs.Pulse.{tile-P, tile-pulse}
-use Rattle.rule.specs.Cases.{case, stamps, starred, around-zero, with-silence, at-ties, Given, Meets, Each-meets, Starred-met, Around-zero-met, Ties-met, Silence-met, Clock-cases, Stamp-limits, Pulse-cases}
+use Rattle.rule.specs.Cases.{case, stamps, starred, around-zero, with-silence, at-ties, Given, Meets, Each-meets, Starred-met, Around-zero-met, Ties-met, Silence-met, Clock-cases, Phase-cases, Stamp-limits, Pulse-cases}
 
 -- what P, the correction and the letter are computed by
 unfoldable pub rule-computed : Unit {0}
@@ -36,10 +36,14 @@ pub clock-cases : Clock-cases
 unfolding Clock-cases reads first-tick up
 clock-cases = (refl, refl, refl, refl, refl, refl, refl, refl, refl)
 
+pub phase-cases : Phase-cases
+unfolding Phase-cases reads first-tick up
+phase-cases = (refl, refl, refl, refl, refl, refl, refl, refl, refl, refl, refl)
+
 pub stamp-limits : Stamp-limits
 unfolding Stamp-limits stamp-of code-of
 stamp-limits = (refl, refl, refl, refl, refl, refl)
 
 pub pulse-cases : Pulse-cases
 unfolding rule-computed Pulse-cases tile-pulse tile-P natural first-tick stamps
-pulse-cases = (refl, refl, refl, refl, refl, refl)
+pulse-cases = (refl, refl, refl, refl, refl, refl, refl, refl)

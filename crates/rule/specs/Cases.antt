@@ -3,10 +3,10 @@
 use mathlib.Core.Path.{_≡_}
 use mathlib.Core.List.{List, [], _∷_}
 use mathlib.Core.Option.{Option, none, some}
-use Prim.Native.Nat.{ℕ, _-_, _^_}
+use Prim.Native.Nat.{ℕ, _+_, _-_, _^_}
 use lib.IntN.{ℤ, pos, negsuc}
 use Rattle.settings.specs.Settings.{settings, step}
-use Rattle.rule.specs.Clock.{reads, first-tick}
+use Rattle.rule.specs.Clock.{million, phase-most, reads, first-tick}
 use Rattle.rule.specs.Stamp.{Stamp, heard, silent, earliest, latest, latest-stamp, silence, stamp-of, code-of}
 use Rattle.rule.specs.Forward.{P, correction}
 use Rattle.rule.specs.Letter.{letter}
@@ -114,7 +114,7 @@ unfoldable pub Silence-met : Type 0
 Silence-met = Each-meets with-silence × (correction 12 24 silent (heard 100) (heard 130) ≡ none)
 
 -- §14.2 a clock of drift 10,000 and phase 0 reads 1111 at tick 1100 and just misses 1110 a tick before; it reads 1511 first at 1497,
--- and less at 1496. At drift 1 a tick in a million is gained, at drift 0 none.
+-- and less at 1496. At drift 1 a tick in a million is gained, at drift 0 none. So it was before there were phases (§E4.6).
 unfoldable pub Clock-cases : Type 0
 Clock-cases =
     (reads 10000 0 1100 ≡ 1111)
@@ -127,6 +127,22 @@ Clock-cases =
     × (reads 0 0 1100 ≡ 1100)
     × (first-tick 0 0 1511 ≡ 1511)
 
+-- §E4.1 with a phase: at tick 1099 that clock reads 1109.99 and its phase, 1110 from phase 10,000 on; at 1496 1510.96 and its phase, so it
+-- first reads 1511 there from 40,000 on, and never before. The largest phase alone makes no reading: at drift 0 none matters.
+unfoldable pub Phase-cases : Type 0
+Phase-cases =
+    (reads 10000 9999 1099 ≡ 1109)
+    × (reads 10000 10000 1099 ≡ 1110)
+    × (reads 10000 999999 1099 ≡ 1110)
+    × (reads 10000 999999 1100 ≡ 1111)
+    × (first-tick 10000 39999 1511 ≡ 1497)
+    × (first-tick 10000 40000 1511 ≡ 1496)
+    × (first-tick 10000 999999 1511 ≡ 1496)
+    × (reads 0 999999 0 ≡ 0)
+    × (reads 0 999999 1100 ≡ 1100)
+    × (first-tick 0 999999 1511 ≡ 1511)
+    × (phase-most + 1 ≡ million)
+
 -- §6.1 2^64 - 1 stands for silence, and one less does not; the latest stamp (§6.2)
 unfoldable pub Stamp-limits : Type 0
 Stamp-limits =
@@ -138,7 +154,7 @@ Stamp-limits =
     × (code-of (heard 0) ≡ 0)
 
 -- §14.4 columns 0, 2 and 3 of the printed wall, where the hold is 400, and two starred cases there; with drift 10,000 the tick of
--- 1111 + 400
+-- 1111 + 400, and that of a phase that makes it a tick earlier (§E4.1)
 unfoldable pub Pulse-cases : Type 0
 Pulse-cases =
     let wall = settings 6 1 100 10 400 0 12 in
@@ -148,3 +164,5 @@ Pulse-cases =
     × (tile-pulse wall 0 0 (heard 220) (stamps 100 300) ≡ 608)
     × (tile-pulse wall 0 0 silent (stamps 100 130) ≡ 566)
     × (tile-pulse (settings 6 1 100 10 400 10000 16) 10000 0 (heard 1111) (stamps 1111 1111) ≡ 1497)
+    × (tile-pulse (settings 6 1 100 10 400 10000 16) 10000 39999 (heard 1111) (stamps 1111 1111) ≡ 1497)
+    × (tile-pulse (settings 6 1 100 10 400 10000 16) 10000 40000 (heard 1111) (stamps 1111 1111) ≡ 1496)

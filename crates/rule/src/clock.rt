@@ -2,21 +2,33 @@
 use settings::MILLION;
 use settings::rounding::up;
 ghost use mathlib.Core.Path.{_≡_};
-ghost use Prim.Native.Nat.{_≤_, _<_, _^_};
-ghost use Rattle.rule.specs.Clock.{reads, first-tick};
+ghost use Prim.Native.Nat.{_<_, _^_};
+ghost use Rattle.rule.specs.Clock.{Admitted, reads, first-tick};
 
-// What a clock of this drift reads at a tick.
-pub fn reading(drift: u64, tick: u64) -> u64
-    requires { ⌜ (drift ≤ 10000) × (tick < 2 ^ 43) ⌝ }
-    ensures { λ r. ⌜ r ≡ reads drift 0 tick ⌝ }
-{
-    tick * (MILLION + drift) / MILLION
+pub struct Clock {
+    // By how many parts per million it runs fast.
+    pub drift: u64,
+    // How far into a reading it starts, in millionths.
+    pub phase: u64,
 }
 
-// The first tick at which a clock of this drift reads at least v.
-pub fn first_tick(drift: u64, v: u64) -> u64
-    requires { ⌜ (drift ≤ 10000) × (v < 2 ^ 43) ⌝ }
-    ensures { λ r. ⌜ r ≡ first-tick drift 0 v ⌝ }
-{
-    up(v * MILLION, MILLION + drift)
+impl Clock {
+    // Further in than this is a reading more.
+    pub const PHASE_MOST: u64 = 999_999;
+
+    // What it reads at a tick.
+    pub fn reading(self, tick: u64) -> u64
+        requires { ⌜ Admitted self × (tick < 2 ^ 43) ⌝ }
+        ensures { λ r. ⌜ r ≡ reads (self .drift) (self .phase) tick ⌝ }
+    {
+        (tick * (MILLION + self.drift) + self.phase) / MILLION
+    }
+
+    // The first tick at which it reads at least v.
+    pub fn first_tick(self, v: u64) -> u64
+        requires { ⌜ Admitted self × (0 < v) × (v < 2 ^ 43) ⌝ }
+        ensures { λ r. ⌜ r ≡ first-tick (self .drift) (self .phase) v ⌝ }
+    {
+        up(v * MILLION - self.phase, MILLION + self.drift)
+    }
 }

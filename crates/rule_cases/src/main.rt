@@ -1,10 +1,10 @@
 // Runs the cases of tiles, clocks and settings (§14.1 to §14.3), tiles at each tie between two letters
-// (§E3.1), and a tile or settings for each number, through the operations, as the file `stdin` lists
-// them. Each line says what is asked for and whether the operation answered that.
+// (§E3.1), clocks with a phase (§E4.1), and a tile or settings for each number, through the operations, as
+// the file `stdin` lists them. Each line says what is asked for and whether the operation answered that.
 use bytes::scan::find;
 use cases::Numbers;
 use libc::STDIN_FILENO;
-use rule::clock;
+use rule::clock::Clock;
 use settings::Checked;
 use settings::Settings;
 use tile::Forwarded;
@@ -36,7 +36,7 @@ fn case(line: &[u8]) {
 fn right(kind: u8, count: usize, n: Numbers) -> bool {
     match kind {
         b's' => count == 8 && number(settings(n)) == n.7,
-        b'k' | b't' => count == 3 && clock_right(kind, n.0, n.1, n.2),
+        b'k' | b't' => count == 4 && clock_right(kind, clock(n), n.2, n.3),
         _ => count == 19 && tile_right(kind, n),
     }
 }
@@ -70,18 +70,29 @@ fn number(s: Settings) -> u64 {
     }
 }
 
+// The clock of a case.
+fn clock(n: Numbers) -> Clock {
+    Clock {
+        drift: n.0,
+        phase: n.1,
+    }
+}
+
 // Whether a clock reads what a case says, or first reads it when the case says.
-fn clock_right(kind: u8, drift: u64, given: u64, expected: u64) -> bool {
-    if 10_000 < drift {
+fn clock_right(kind: u8, clock: Clock, given: u64, expected: u64) -> bool {
+    if 10_000 < clock.drift {
+        return false;
+    }
+    if Clock::PHASE_MOST < clock.phase {
         return false;
     }
     if 8_796_093_022_207 < given {
         return false;
     }
     if kind == b'k' {
-        return clock::reading(drift, given) == expected;
+        return clock.reading(given) == expected;
     }
-    clock::first_tick(drift, given) == expected
+    0 < given && clock.first_tick(given) == expected
 }
 
 fn tile_right(kind: u8, n: Numbers) -> bool {

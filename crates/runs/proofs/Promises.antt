@@ -39,6 +39,7 @@ among {f = f} {k = k} two =
       alike = record {
         as-many = alike .as-many;
         drifts = alike .drifts;
+        phases = alike .phases;
         correct = alike .first-clean f k (two .row) (two .column);
         marks = λ l c m n. rw (alike .first-clean l c m n) (alike .marks l c m n);
         links = alike .links;

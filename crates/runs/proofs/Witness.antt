@@ -20,16 +20,16 @@ use Rattle.admission.specs.Call.{call}
 use Rattle.columns.specs.Marks.{marked, mark-bytes, faulty-among}
 use Rattle.pulse.specs.Pulse.{arrives, arrival, read-at, stamp, pulse}
 use Rattle.row.specs.Row.{row-of}
-use Rattle.admission.specs.Refusal.{lengths-are, lengths-right, stray-mark, late-time, crowded, fast, row-tests, row-refusal}
+use Rattle.admission.specs.Refusal.{lengths-are, lengths-right, stray-mark, late-time, crowded, over, row-tests, row-refusal}
 use Rattle.links.specs.Links.{bad-value, bad-link, bad-links}
 use Rattle.runs.specs.Run.{accepted-calls, rows, call-at, row-at}
 use Rattle.runs.specs.Reach.{Alike, apart, widest, gap-below, widest-gap, reach-ticks, One-fault}
 use Rattle.settings.proofs.Laws.AnyBelow.{none-below}
-use Rattle.runs.specs.Witness.{wall, row-0, sound, broken, stray, first-run, second-run, first-rows, second-rows, Witnessed, Rows-met, Differences-met, Reach-met, One-fault-met}
+use Rattle.runs.specs.Witness.{wall, row-0, phases, sound, broken, stray, first-run, second-run, first-rows, second-rows, Witnessed, Rows-met, Differences-met, Reach-met, One-fault-met}
 
 -- the rows and the accepted calls
 computed : Rows-met × (accepted-calls wall first-run row-0 ≡ sound ∷ sound ∷ []) × (accepted-calls wall second-run row-0 ≡ sound ∷ broken ∷ [])
-unfolding Rows-met first-rows second-rows first-run second-run rows accepted-calls wall row-0 sound broken stray settings call row-refusal row-tests first outside up settings-refusal settings-tests drift-cost any-below any-of mark-bytes lengths-are lengths-right stray-mark late-time faulty-among crowded fast bad-value bad-link bad-links marked link link-place links-before place-in predecessors is-predecessor are-neighbours columns-from row-of table-from pulse tile-pulse tile-P P heard-correction D least-to larger-at larger smaller natural stamp arrival arrives read-at reads first-tick stamp-of earliest latest earlier later step-of step neighbours
+unfolding Rows-met first-rows second-rows first-run second-run rows accepted-calls wall row-0 phases sound broken stray settings call row-refusal row-tests first outside up settings-refusal settings-tests drift-cost any-below any-of mark-bytes lengths-are lengths-right stray-mark late-time faulty-among crowded over bad-value bad-link bad-links marked link link-place links-before place-in predecessors is-predecessor are-neighbours columns-from row-of table-from pulse tile-pulse tile-P P heard-correction D least-to larger-at larger smaller natural stamp arrival arrives read-at reads first-tick stamp-of earliest latest earlier later step-of step neighbours
 computed = ((refl, refl), refl, refl)
 
 pub rows-met : Rows-met
@@ -70,12 +70,17 @@ same-link c j m n p q =
     eqb-true (link 6 (sound .links) c j) (link 6 (broken .links) c j) (not-false _ (rw (p, q) at e))
 
 alike : Alike 6 1 3 (sound ∷ sound ∷ []) (sound ∷ broken ∷ [])
-alike = record { as-many = refl; drifts = drifts; first-clean = clean; marks = marks; links = links }
+alike = record { as-many = refl; drifts = drifts; phases = same-phases; first-clean = clean; marks = marks; links = links }
   where
     drifts : (l : ℕ) → l < 2 → call-at (sound ∷ sound ∷ []) l .drifts ≡ call-at (sound ∷ broken ∷ []) l .drifts
     drifts zero i = unfold call-at in refl
     drifts (suc zero) i = unfold call-at sound broken call in refl
     drifts (suc (suc l)) i = let never : ⊥ = omega arith in absurd never
+
+    same-phases : (l : ℕ) → l < 2 → call-at (sound ∷ sound ∷ []) l .phases ≡ call-at (sound ∷ broken ∷ []) l .phases
+    same-phases zero i = unfold call-at in refl
+    same-phases (suc zero) i = unfold call-at sound broken call in refl
+    same-phases (suc (suc l)) i = let never : ⊥ = omega arith in absurd never
 
     clean : (l c : ℕ) → l < 2 → c < 6 → marked (call-at (sound ∷ sound ∷ []) l .marks) c ≡ false
     clean zero c i j = unfold call-at in no-mark c j

@@ -16,6 +16,7 @@ use Rattle.runs.specs.Run.{accepted-calls, rows, call-at, row-at}
 pub record Alike (w f k : ℕ) (xs ys : List Call) : Type 0 where
   pub as-many : length xs ≡ length ys
   pub drifts : (l : ℕ) → l < length xs → call-at xs l .drifts ≡ call-at ys l .drifts
+  pub phases : (l : ℕ) → l < length xs → call-at xs l .phases ≡ call-at ys l .phases
   pub first-clean : (l c : ℕ) → l < length xs → c < w → marked (call-at xs l .marks) c ≡ false
   pub marks : (l c : ℕ) → l < length xs → c < w → marked (call-at ys l .marks) c ≡ (eqb l f && eqb c k)
   pub links :
@@ -26,6 +27,7 @@ pub record Alike (w f k : ℕ) (xs ys : List Call) : Type 0 where
 pub record Alike-among (w f k : ℕ) (xs ys : List Call) : Type 0 where
   pub as-many : length xs ≡ length ys
   pub drifts : (l : ℕ) → l < length xs → call-at xs l .drifts ≡ call-at ys l .drifts
+  pub phases : (l : ℕ) → l < length xs → call-at xs l .phases ≡ call-at ys l .phases
   pub correct : marked (call-at xs f .marks) k ≡ false
   pub marks : (l c : ℕ) → l < length xs → c < w → marked (call-at ys l .marks) c ≡ (marked (call-at xs l .marks) c || (eqb l f && eqb c k))
   pub links :

@@ -21,7 +21,7 @@ rows s (x ∷ xs) ts = cond (eqb (row-refusal s ts x) 0) (row-of s ts x ∷ rows
 
 -- §11.4 what stands past the end of the calls
 abbrev pub no-call : Call
-no-call = record { marks = []; drifts = []; links = []; room = 0; letter-room = 0 }
+no-call = record { marks = []; drifts = []; phases = []; links = []; room = 0; letter-room = 0 }
 
 -- §11.5 the call for row l + 1, which marks the faulty tiles of row l
 unfoldable pub call-at : List Call → (l : ℕ) → Call

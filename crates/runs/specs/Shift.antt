@@ -15,6 +15,7 @@ use Rattle.runs.specs.Run.{accepted-calls, rows, call-at, row-at}
 pub record Later (w n : ℕ) (xs ys : List Call) : Type 0 where
   pub as-many : length xs ≡ length ys
   pub drifts : (l : ℕ) → l < length xs → call-at xs l .drifts ≡ call-at ys l .drifts
+  pub phases : (l : ℕ) → l < length xs → call-at xs l .phases ≡ call-at ys l .phases
   pub marks : (l c : ℕ) → l < length xs → c < w → marked (call-at xs l .marks) c ≡ marked (call-at ys l .marks) c
   pub delays :
       (l c j : ℕ) → l < length xs → c < w → j < w → is-predecessor w c j ≡ true → marked (call-at xs l .marks) j ≡ false →

@@ -20,21 +20,25 @@ wall = settings 6 2 100 10 400 0 12
 unfoldable pub row-0 : List ℕ
 row-0 = replicate 6 1000
 
+-- §E4.5 the phases of its tiles, in either
+unfoldable pub phases : List ℕ
+phases = 0 ∷ 999999 ∷ 40000 ∷ 1 ∷ 500000 ∷ 999999 ∷ []
+
 -- §11.6 a row without faults: the links of tiles 0 to 5, own's among them 100
 unfoldable pub sound : Call
 sound =
-    call (0 ∷ []) (replicate 6 0)
+    call (0 ∷ []) (replicate 6 0) phases
     (100 ∷ 90 ∷ 90 ∷ 90 ∷ 100 ∷ 90 ∷ 90 ∷ 90 ∷ 100 ∷ 90 ∷ 90 ∷ 100 ∷ 90 ∷ 90 ∷ 90 ∷ 100 ∷ 90 ∷ 90 ∷ 90 ∷ 100 ∷ []) 6 6
 
 -- §11.6 column 3 is marked, and its links to tiles 2 to 5 are arrivals at 0
 unfoldable pub broken : Call
 broken =
-    call (8 ∷ []) (replicate 6 0)
+    call (8 ∷ []) (replicate 6 0) phases
     (100 ∷ 90 ∷ 90 ∷ 90 ∷ 100 ∷ 90 ∷ 90 ∷ 90 ∷ 100 ∷ 0 ∷ 90 ∷ 0 ∷ 90 ∷ 90 ∷ 0 ∷ 100 ∷ 90 ∷ 0 ∷ 90 ∷ 100 ∷ []) 6 6
 
 -- §11.3 a call of wrong lengths, which is turned away
 unfoldable pub stray : Call
-stray = call [] [] [] 0 0
+stray = call [] [] [] [] 0 0
 
 -- §11.6 the run without a faulty tile
 unfoldable pub first-run : List Call

@@ -57,7 +57,7 @@ fn run_in(
     letters: &mut [u8],
     output: &mut [u8],
 ) -> Found
-    requires { ⌜ (6710 ≤ length (now input)) × (256 ≤ length (now row)) × (256 ≤ length (now next)) × (256 ≤ length (now letters)) × (step-room ≤ length (now output)) ⌝ }
+    requires { ⌜ (7734 ≤ length (now input)) × (256 ≤ length (now row)) × (256 ≤ length (now next)) × (256 ≤ length (now letters)) × (step-room ≤ length (now output)) ⌝ }
     ensures { λ r. ⌜ Ends (search-step (take 16 (now (asked .entry)))) 0 (r .outcome) (r .largest) (pulses (now (row .exit)) (now (letters .exit))) (now (output .exit)) ⌝ }
 {
     let mut state = State::start();

@@ -15,20 +15,20 @@ placed w l at =
       offset = at;
     }
 
--- §17.3 3 bytes and a body of 24, of 8W, of W / 8 rounded up and of 26W + 16; a byte more would be 44
+-- §17.3 3 bytes and a body of 24, of 8W, of W / 8 rounded up and of 30W + 16; a byte more would be 44
 unfoldable pub Due-met : Type 0
 Due-met =
-    (due-of New ≡ 27) × (due-of (Start (placed 6 0 27)) ≡ 51) × (due-of (Row (placed 6 0 78)) ≡ 179) × (due-of (Row (placed 6 1 257)) ≡ 179)
-    × (due-of (End (placed 6 2 436)) ≡ 1) × (due-of Over ≡ 0) × (due-of (Start (placed 5 0 27)) ≡ 0)
+    (due-of New ≡ 27) × (due-of (Start (placed 6 0 27)) ≡ 51) × (due-of (Row (placed 6 0 78)) ≡ 203) × (due-of (Row (placed 6 1 281)) ≡ 203)
+    × (due-of (End (placed 6 2 484)) ≡ 1) × (due-of Over ≡ 0) × (due-of (Start (placed 5 0 27)) ≡ 0)
 
 -- §17.3 a row is W long once W is known
 unfoldable pub Width-met : Type 0
 Width-met =
-    (width-of New ≡ 0) × (width-of (Start (placed 6 0 27)) ≡ 6) × (width-of (Row (placed 6 0 78)) ≡ 6) × (width-of (End (placed 6 2 436)) ≡ 6)
+    (width-of New ≡ 0) × (width-of (Start (placed 6 0 27)) ≡ 6) × (width-of (Row (placed 6 0 78)) ≡ 6) × (width-of (End (placed 6 2 484)) ≡ 6)
     × (width-of Over ≡ 0) × (width-of (Start (placed 5 0 27)) ≡ 0)
 
 -- §17.3 a row of another length does not fit
 unfoldable pub Fit-met : Type 0
 Fit-met =
-    (wall-fits (Row (placed 6 1 257)) 6 ≡ true) × (wall-fits (Row (placed 6 1 257)) 5 ≡ false) × (wall-fits (Row (placed 6 1 257)) 7 ≡ false)
-    × (wall-fits (Row (placed 5 1 257)) 5 ≡ false) × (wall-fits New 0 ≡ true)
+    (wall-fits (Row (placed 6 1 281)) 6 ≡ true) × (wall-fits (Row (placed 6 1 281)) 5 ≡ false) × (wall-fits (Row (placed 6 1 281)) 7 ≡ false)
+    × (wall-fits (Row (placed 5 1 281)) 5 ≡ false) × (wall-fits New 0 ≡ true)

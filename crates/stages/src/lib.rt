@@ -36,7 +36,7 @@ impl Wall {
     // How many bytes the next step is given, fewer only where the file ends.
     pub fn due(self) -> usize
         ensures due { λ r. ⌜ r ≡ due-of self ⌝ }
-        ensures few { λ r. ⌜ r ≤ 6710 ⌝ }
+        ensures few { λ r. ⌜ r ≤ 7734 ⌝ }
     {
         match self {
             Wall::New => 27,

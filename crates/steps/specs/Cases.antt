@@ -2,7 +2,7 @@
 -- settings of the wall that is printed whole. Assumes nothing.
 use mathlib.Core.Path.{_≡_}
 use mathlib.Core.List.{List, [], _∷_, _++_, map}
-use Prim.Native.Nat.{ℕ}
+use Prim.Native.Nat.{ℕ, _+_, _*_}
 use lib.ListN.{replicate}
 use Rattle.row.specs.Row.{pulses}
 use Rattle.stages.specs.declared.Place.{Place}
@@ -39,6 +39,10 @@ row-case n at bs = case n at (Row (placed 0 78)) bs
 unfoldable pub field : (tag size : ℕ) → (body : List ℕ) → List ℕ
 field tag size body = tag ∷ 0 ∷ size ∷ body
 
+-- §E4.4 a tile of tag 4's body: drift 0, its phase and link values as large as can be
+unfoldable pub tile : (links : ℕ) → List ℕ
+tile n = 0 ∷ 0 ∷ replicate (4 + 8 * n) 255
+
 -- §9.7 and §9.8: the numbers of each part in their order, each with its offset
 unfoldable pub step-cases : List Case
 step-cases =
@@ -61,15 +65,16 @@ step-cases =
     ∷ row-case 43 78 (field 3 1 [])
     -- once it is there tag 4's at its own, before what tag 3 holds
     ∷ row-case 43 82 (field 3 1 (64 ∷ []))
-    ∷ row-case 41 82 (field 3 1 (64 ∷ []) ++ field 3 172 (replicate 172 0))
-    ∷ row-case 42 82 (field 3 1 (64 ∷ []) ++ field 4 171 (replicate 172 0))
-    ∷ row-case 43 82 (field 3 1 (64 ∷ []) ++ field 4 172 (replicate 171 0))
+    ∷ row-case 41 82 (field 3 1 (64 ∷ []) ++ field 3 196 (replicate 196 0))
+    ∷ row-case 42 82 (field 3 1 (64 ∷ []) ++ field 4 195 (replicate 196 0))
+    ∷ row-case 43 82 (field 3 1 (64 ∷ []) ++ field 4 196 (replicate 195 0))
     -- then what both hold, at tag 4
-    ∷ row-case 22 82 (field 3 1 (64 ∷ []) ++ field 4 172 (replicate 172 0))
-    ∷ row-case 24 82 (field 3 1 (3 ∷ []) ++ field 4 172 (replicate 172 0))
-    ∷ row-case 25 82 (field 3 1 (0 ∷ []) ++ field 4 172 (replicate 172 255))
+    ∷ row-case 22 82 (field 3 1 (64 ∷ []) ++ field 4 196 (replicate 196 0))
+    ∷ row-case 24 82 (field 3 1 (3 ∷ []) ++ field 4 196 (replicate 196 0))
+    ∷ row-case 25 82 (field 3 1 (0 ∷ []) ++ field 4 196 (replicate 196 255))
+    ∷ row-case 53 82 (field 3 1 (0 ∷ []) ++ field 4 196 (tile 3 ++ tile 3 ++ tile 4 ++ tile 4 ++ tile 3 ++ tile 3))
     -- the end: the first extra byte
-    ∷ case 44 257 (End (placed 1 257)) (1 ∷ [])
+    ∷ case 44 281 (End (placed 1 281)) (1 ∷ [])
     ∷ []
 
 -- §9.8 each shows its refusal and nothing else; the row that is lent holds 1000 in each column

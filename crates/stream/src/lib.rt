@@ -57,7 +57,7 @@ impl State {
     // How many bytes the next step is to be given.
     pub fn due(self) -> usize
         ensures due { λ r. ⌜ r ≡ due-of (self .wall) ⌝ }
-        ensures few { λ r. ⌜ r ≤ 6710 ⌝ }
+        ensures few { λ r. ⌜ r ≤ 7734 ⌝ }
     {
         let wall = self.wall;
         wall.due()
@@ -160,7 +160,7 @@ pub fn finish(to: i32, state: State, output: &[u8]) -> Outcome
 // Has the due part in the window, and room for its text. Text is handed over where a read is to come, so that no row
 // waits for input that it does not need, and where the room is too small.
 pub fn ready(from: i32, to: i32, state: State, due: usize, input: &mut [u8], output: &[u8]) -> Turn
-    requires { ⌜ Between state (length (now input)) (length (now output)) × (6710 ≤ length (now input)) × (step-room ≤ length (now output)) × (due ≡ due-of (state .wall)) × (due ≤ 6710) ⌝ }
+    requires { ⌜ Between state (length (now input)) (length (now output)) × (7734 ≤ length (now input)) × (step-room ≤ length (now output)) × (due ≡ due-of (state .wall)) × (due ≤ 7734) ⌝ }
     ensures { λ r. ⌜ made-ready state (now (input .entry)) (length (now (output .entry))) r (now (input .exit)) ⌝ }
 {
     let window = state.window;

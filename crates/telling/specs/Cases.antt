@@ -29,13 +29,13 @@ row-0 = 1000 ∷ 1000 ∷ 1000 ∷ 1080 ∷ 1000 ∷ 1000 ∷ []
 -- §15.4 a row without faults, where row 1 is asked for, with the largest so far; a faulty tile ends the search
 unfoldable pub Row-cases : Type 0
 Row-cases =
-    (row-says (1 ∷ []) (at-row 0 78) (End (at-row 1 257)) 0 (0 ∷ []) row-0 ≡ says (End (at-row 1 257)) 256 (printed ("b 0 80" ∷ "r 0 1 256 1" ∷ [])))
-    × (row-says [] (at-row 0 78) (End (at-row 1 257)) 300 (0 ∷ []) row-0 ≡ says (End (at-row 1 257)) 300 (printed ("b 0 80" ∷ [])))
-    × (row-says (1 ∷ []) (at-row 0 78) (End (at-row 1 257)) 0 (40 ∷ []) row-0 ≡ says Over 0 (printed ("faulty 0 3" ∷ [])))
+    (row-says (1 ∷ []) (at-row 0 78) (End (at-row 1 281)) 0 (0 ∷ []) row-0 ≡ says (End (at-row 1 281)) 256 (printed ("b 0 80" ∷ "r 0 1 256 1" ∷ [])))
+    × (row-says [] (at-row 0 78) (End (at-row 1 281)) 300 (0 ∷ []) row-0 ≡ says (End (at-row 1 281)) 300 (printed ("b 0 80" ∷ [])))
+    × (row-says (1 ∷ []) (at-row 0 78) (End (at-row 1 281)) 0 (40 ∷ []) row-0 ≡ says Over 0 (printed ("faulty 0 3" ∷ [])))
 
 -- §15.4 the end of the file, with the largest; a byte after it; a file that ends before its settings
 unfoldable pub End-cases : Type 0
 End-cases =
-    (telling [] (End (at-row 1 257)) 256 row-0 [] ≡ says Over 256 (printed ("largest 256 ticks" ∷ [])))
-    × (telling [] (End (at-row 1 257)) 256 row-0 (0 ∷ []) ≡ says Over 256 (printed ("refused 44 at 257" ∷ [])))
+    (telling [] (End (at-row 1 281)) 256 row-0 [] ≡ says Over 256 (printed ("largest 256 ticks" ∷ [])))
+    × (telling [] (End (at-row 1 281)) 256 row-0 (0 ∷ []) ≡ says Over 256 (printed ("refused 44 at 281" ∷ [])))
     × (telling [] New 0 [] [] ≡ says Over 0 (printed ("refused 43 at 0" ∷ [])))

@@ -32,8 +32,8 @@ Step-cases =
     × Step (wall-at 1 0 27) (3 ∷ 0 ∷ 48 ∷ []) (replicate 6 0) 6 6 41 (wall-at 5 41 27) 27
     × Step (wall-at 1 0 27) (2 ∷ 0 ∷ 48 ∷ replicate 48 0) (replicate 6 0) 5 6 4294967295 (wall-at 1 0 27) 7
     × Step (wall-at 1 0 27) (2 ∷ 0 ∷ 48 ∷ replicate 48 0) (replicate 6 0) 6 5 4294967295 (wall-at 1 0 27) 7
-    × Step (wall-at 3 1 257) [] (replicate 6 0) 6 6 0 (wall-at 4 1 257) 7
-    × Step (wall-at 3 1 257) (0 ∷ []) (replicate 6 0) 6 6 44 (wall-at 5 44 257) 257
+    × Step (wall-at 3 1 281) [] (replicate 6 0) 6 6 0 (wall-at 4 1 281) 7
+    × Step (wall-at 3 1 281) (0 ∷ []) (replicate 6 0) 6 6 44 (wall-at 5 44 281) 281
 
 -- §E3.6 the rows to write after such a step, which held sevens and eights
 unfoldable pub Writes : (wall part row : List ℕ) → (times letters : List ℕ) → Type 0
@@ -43,31 +43,37 @@ Writes ws part row times letters = next-left ws part row (pulses (replicate 6 7)
 unfoldable pub row-0 : List ℕ
 row-0 = 1000 ∷ 1000 ∷ 1000 ∷ 1080 ∷ 1000 ∷ 1000 ∷ []
 
--- §14.4 the fields of its row 1: no marks, drifts of 0, links of so many ticks
-unfoldable pub row-fields : (link : ℕ) → List ℕ
-row-fields v =
+-- §14.4 the fields of its row 1: no marks, drifts of 0, a phase (§E4.4), links of so many ticks
+unfoldable pub row-fields : (phase : List ℕ) → (link : ℕ) → List ℕ
+row-fields q v =
     let link : List ℕ = 0 ∷ 0 ∷ 0 ∷ 0 ∷ 0 ∷ 0 ∷ 0 ∷ v ∷ [] in
-    let tile : List ℕ = 0 ∷ 0 ∷ (link ++ link ++ link) in
-    3 ∷ 0 ∷ 1 ∷ 0 ∷ 4 ∷ 0 ∷ 172 ∷ (tile ++ tile ++ (tile ++ link) ++ (tile ++ link) ++ tile ++ tile)
+    let tile : List ℕ = 0 ∷ 0 ∷ (q ++ link ++ link ++ link) in
+    3 ∷ 0 ∷ 1 ∷ 0 ∷ 4 ∷ 0 ∷ 196 ∷ (tile ++ tile ++ (tile ++ link) ++ (tile ++ link) ++ tile ++ tile)
 
 -- §E3.6 row 0 leaves the letters; row 1 is written with its times and letters, k, k, k, l, k, k; a row that is turned away leaves both
 unfoldable pub Letter-cases : Type 0
 Letter-cases =
     Writes (wall-at 1 0 27) (2 ∷ 0 ∷ 48 ∷ replicate 48 0) (replicate 6 0) (replicate 6 0) (replicate 6 8)
-    × Writes (wall-at 2 0 78) (row-fields 100) row-0 (1500 ∷ 1500 ∷ 1500 ∷ 1536 ∷ 1500 ∷ 1500 ∷ []) (107 ∷ 107 ∷ 107 ∷ 108 ∷ 107 ∷ 107 ∷ [])
-    × Writes (wall-at 2 0 78) (row-fields 101) row-0 (replicate 6 7) (replicate 6 8)
+    × Writes (wall-at 2 0 78) (row-fields (replicate 4 0) 100) row-0 (1500 ∷ 1500 ∷ 1500 ∷ 1536 ∷ 1500 ∷ 1500 ∷ []) (107 ∷ 107 ∷ 107 ∷ 108 ∷ 107 ∷ 107 ∷ [])
+    × Writes (wall-at 2 0 78) (row-fields (replicate 4 0) 101) row-0 (replicate 6 7) (replicate 6 8)
+
+-- §E4.4 phases of 999,999, which change nothing where no clock drifts; of 1,000,000, which are 53 and not 26, at tag 4
+unfoldable pub Phase-cases : Type 0
+Phase-cases =
+    Writes (wall-at 2 0 78) (row-fields (0 ∷ 15 ∷ 66 ∷ 63 ∷ []) 100) row-0 (1500 ∷ 1500 ∷ 1500 ∷ 1536 ∷ 1500 ∷ 1500 ∷ []) (107 ∷ 107 ∷ 107 ∷ 108 ∷ 107 ∷ 107 ∷ [])
+    × Step (wall-at 2 0 78) (row-fields (0 ∷ 15 ∷ 66 ∷ 64 ∷ []) 101) row-0 6 6 53 (wall-at 5 53 82) 82
 
 -- §17.3 an ended file once more, and with a byte; a file that is turned away once more, whatever is lent; a part longer than is due, at its
 -- start and at its end; a refusal without a number, or with that of what is
 -- unfit, and a stage past all
 unfoldable pub Again-cases : Type 0
 Again-cases =
-    Step (wall-at 4 1 257) [] [] 0 0 0 (wall-at 4 1 257) 7
-    × Step (wall-at 4 1 257) (0 ∷ []) [] 0 0 4294967295 (wall-at 4 1 257) 7
+    Step (wall-at 4 1 281) [] [] 0 0 0 (wall-at 4 1 281) 7
+    × Step (wall-at 4 1 281) (0 ∷ []) [] 0 0 4294967295 (wall-at 4 1 281) 7
     × Step (wall-at 5 41 27) [] (replicate 6 0) 6 6 41 (wall-at 5 41 27) 27
     × Step (wall-at 5 41 27) (2 ∷ 0 ∷ []) [] 1 1 41 (wall-at 5 41 27) 27
     × Step (replicate 10 0) (0 ∷ settings-field) [] 0 0 4294967295 (replicate 10 0) 7
-    × Step (wall-at 3 1 257) (0 ∷ 0 ∷ []) (replicate 6 0) 6 6 4294967295 (wall-at 3 1 257) 7
+    × Step (wall-at 3 1 281) (0 ∷ 0 ∷ []) (replicate 6 0) 6 6 4294967295 (wall-at 3 1 281) 7
     × Step (wall-at 5 0 27) [] [] 0 0 4294967295 (wall-at 5 0 27) 7
     × Step (wall-at 5 4294967295 27) [] [] 0 0 4294967295 (wall-at 5 4294967295 27) 7
     × Step (wall-at 6 41 27) [] [] 0 0 4294967295 (wall-at 6 41 27) 7

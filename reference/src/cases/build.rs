@@ -3,6 +3,7 @@
 use crate::generate::describe::{Description, RowDescription};
 use crate::settings::Numbers;
 use crate::shape::{is_marked, Shape};
+use crate::LARGEST_PHASE;
 
 /// The settings of the wall that is printed whole (§14.4).
 pub const PRINTED: Numbers = Numbers {
@@ -22,7 +23,7 @@ pub fn printed(rows: u32) -> Description {
     wall
 }
 
-/// A wall without faults: row 0 at 1,000, drifts 0, all delays the longest.
+/// A wall without faults: row 0 at 1,000, drifts and phases 0, all delays the longest.
 pub fn quiet(numbers: Numbers) -> Description {
     Description {
         numbers,
@@ -37,6 +38,7 @@ fn quiet_row(numbers: &Numbers) -> RowDescription {
     RowDescription {
         marks: vec![0; shape.mark_bytes()],
         drifts: vec![0; shape.columns()],
+        phases: vec![0; shape.columns()],
         links: (0..shape.columns())
             .map(|tile| vec![numbers.delay.into(); senders(tile)])
             .collect(),
@@ -73,6 +75,13 @@ pub fn vary(numbers: &Numbers, row: &mut RowDescription, turn: u64) {
                 row.links[tile][place] = least + spread(at, u);
             }
         }
+    }
+}
+
+/// Gives each tile a phase that differs from one to the next: the least and the most, and those between.
+pub fn vary_phases(row: &mut RowDescription, turn: u64) {
+    for (tile, phase) in (0..).zip(&mut row.phases) {
+        *phase = spread(7 * tile + 3 * turn, LARGEST_PHASE.into()) as u32;
     }
 }
 

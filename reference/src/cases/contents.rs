@@ -1,16 +1,17 @@
-//! Row 0 times, marks, drifts and link values at and past their limits, and the order of the numbers.
+//! Row 0 times, marks, drifts, phases and link values at and past their limits, and the order of the numbers.
 
 use super::build::{fault, printed, quiet, PRINTED};
 use super::Case;
 use crate::generate::describe::{Description, RowDescription};
 use crate::settings::Numbers;
-use crate::{LATEST_ARRIVAL, LATEST_START, SILENT};
+use crate::{LARGEST_PHASE, LATEST_ARRIVAL, LATEST_START, SILENT};
 
 pub fn cases() -> Vec<Case> {
     let mut cases = starts();
     cases.extend(stray_marks());
     cases.extend(crowded());
     cases.extend(drifts());
+    cases.extend(phases());
     cases.extend(links());
     cases.extend(order());
     cases.extend(later_rows());
@@ -135,6 +136,52 @@ fn drifts() -> Vec<Case> {
     ]
 }
 
+/// 53: over 999,999. After pulses at 1,000, a tile of drift 10,000 pulses at 1497, and at 1496 from phase 40,000 on;
+/// one of drift 40 pulses at 1500, and at 1499 with phases from 940,040 to 955,999.
+fn phases() -> Vec<Case> {
+    let drifting = |drift_limit: u32, unit: u32| {
+        let mut wall = quiet(Numbers {
+            drift_limit,
+            unit,
+            rows: 2,
+            ..PRINTED
+        });
+        for row in &mut wall.rows {
+            row.drifts.fill(drift_limit as u16);
+        }
+        wall
+    };
+    let wall = |name: &str, row: usize, column: usize, phase: u32| {
+        made(name, drifting(10_000, 16), |wall| {
+            wall.rows[row].phases[column] = phase
+        })
+    };
+    let all = |name: &str, wall: Description, at: fn(usize) -> u32| {
+        made(name, wall, |wall| {
+            for row in &mut wall.rows {
+                row.phases = (0..row.phases.len()).map(at).collect();
+            }
+        })
+    };
+    vec![
+        wall("phase-over-first", 0, 0, LARGEST_PHASE + 1),
+        wall("phase-over-last", 0, 5, LARGEST_PHASE + 1),
+        wall("phase-over-second-row", 1, 2, LARGEST_PHASE + 1),
+        wall("phase-4294967295", 0, 3, u32::MAX),
+        wall("phase-at-limit", 0, 3, LARGEST_PHASE),
+        all("phase-all-at-limit", drifting(10_000, 16), |_| {
+            LARGEST_PHASE
+        }),
+        all("phase-all-at-limit-drift-0", printed(2), |_| LARGEST_PHASE),
+        all("phase-tick-apart", drifting(10_000, 16), |column| {
+            39_999 + column as u32 % 2
+        }),
+        all("phase-by-column", drifting(40, 13), |column| {
+            [0, 940_039, 940_040, 955_999, 956_000, LARGEST_PHASE][column]
+        }),
+    ]
+}
+
 /// 26: a delay that is not from d - u to d, silence from a correct tile, an arrival from a faulty one past 2^40 - 1.
 fn links() -> Vec<Case> {
     let set = |name: &str, tile: usize, place: usize, value: u64| {
@@ -167,7 +214,7 @@ fn links() -> Vec<Case> {
     ]
 }
 
-/// The lowest number of a row, wherever in the row it arises.
+/// The first number of a row, 53 being after 25 and before 26, wherever in the row it arises.
 fn order() -> Vec<Case> {
     let spoiled = |name: &str, marks: u8, drift: u16| {
         first_row(name, |row| {
@@ -176,11 +223,28 @@ fn order() -> Vec<Case> {
             row.marks[0] = marks;
         })
     };
+    // Columns of a drift over r, of a phase over 999,999 and of a delay over d.
+    let in_columns = |name: &str, drift: Option<usize>, phase: usize, delay: Option<usize>| {
+        first_row(name, |row| {
+            row.phases[phase] = LARGEST_PHASE + 1;
+            if let Some(column) = drift {
+                row.drifts[column] = 1;
+            }
+            if let Some(column) = delay {
+                row.links[column][0] = 101;
+            }
+        })
+    };
     vec![
         spoiled("order-26", 0, 0),
         spoiled("order-25-26", 0, 1),
         spoiled("order-24-25-26", 0b001_001, 1),
         spoiled("order-22-24-25-26", 0b1000_0011, 1),
+        in_columns("order-53-26", None, 0, Some(5)),
+        in_columns("order-53-last-26-first", None, 5, Some(0)),
+        in_columns("order-25-53", Some(0), 5, None),
+        in_columns("order-25-last-53-first", Some(5), 0, None),
+        in_columns("order-25-53-26", Some(5), 3, Some(0)),
         made("order-45-24", printed(1), |wall| {
             wall.start[0] = LATEST_START + 1;
             wall.rows[0].marks[0] = 0b11;

@@ -1,6 +1,6 @@
-//! Faults at every edge, for several widths, and walls as long and as wide as can be.
+//! Faults at every edge, for several widths, and walls as long and as wide as can be, some with phases.
 
-use super::build::{fault, quiet, vary, PRINTED};
+use super::build::{fault, quiet, vary, vary_phases, PRINTED};
 use super::Case;
 use crate::generate::describe::Description;
 use crate::settings::Numbers;
@@ -14,6 +14,12 @@ pub fn cases() -> Vec<Case> {
     }
     cases.push(Case::new("w-256", widest().encode().bytes));
     cases.push(Case::new("w-6-r-1024", longest().encode().bytes));
+    for columns in [6, 9] {
+        let wall = phased(edges(columns));
+        let name = format!("w-{columns}-edges-phases");
+        cases.push(Case::new(name, wall.encode().bytes));
+    }
+    cases.push(Case::new("w-256-phases", phased(widest()).encode().bytes));
     cases
 }
 
@@ -122,6 +128,13 @@ fn varied(mut wall: Description) -> Description {
     let numbers = wall.numbers;
     for (turn, row) in wall.rows.iter_mut().enumerate() {
         vary(&numbers, row, turn as u64);
+    }
+    wall
+}
+
+fn phased(mut wall: Description) -> Description {
+    for (turn, row) in wall.rows.iter_mut().enumerate() {
+        vary_phases(row, turn as u64);
     }
     wall
 }

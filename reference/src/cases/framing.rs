@@ -1,4 +1,5 @@
-//! Files cut short before a field or within one, wrong tags and lengths, and bytes after the last field.
+//! Files cut short before a field or within one, wrong tags and lengths, tag 4 in its old form, and bytes after the
+//! last field.
 
 use super::build::printed;
 use super::Case;
@@ -26,6 +27,7 @@ pub fn cases() -> Vec<Case> {
     }
     cases.extend(after_the_last(&sound));
     cases.extend(marks_and_tiles(&sound));
+    cases.extend(old_forms());
     cases
 }
 
@@ -110,4 +112,13 @@ fn marks_and_tiles(sound: &Encoded) -> Vec<Case> {
             b[tiles + 2] ^= 1;
         }),
     ]
+}
+
+/// 42 at the first tag 4 that is as it was before there were phases.
+fn old_forms() -> Vec<Case> {
+    let old = |name: &str, from: usize| {
+        let encoded = printed(2).encode_old_from(from);
+        Case::new(name, encoded.bytes)
+    };
+    vec![old("old-form", 0), old("old-form-second-row", 1)]
 }

@@ -20,6 +20,7 @@ pub fn cases() -> Vec<Case> {
             heard_alike(ties(PRINTED)).encode().bytes,
         ),
         Case::new("letters-silence", silence().encode().bytes),
+        Case::new("letters-by-phase", by_phase(drifting).encode().bytes),
     ]
 }
 
@@ -86,6 +87,21 @@ fn silence() -> Description {
         (19, 3 * h + 1),
     ] {
         offset(&mut wall, column, ticks);
+    }
+    wall
+}
+
+/// Columns 4 and 8 pulse 15 ticks after their neighbours and drift by 10,000, so that they lack 0.85 of a reading of
+/// D = 0. One has a phase of that much, the other a phase of a millionth less.
+fn by_phase(numbers: Numbers) -> Description {
+    let mut wall = quiet(Numbers {
+        columns: 13,
+        ..numbers
+    });
+    for (column, phase) in [(4, 849_999), (8, 850_000)] {
+        offset(&mut wall, column, 15);
+        wall.rows[0].drifts[column] = 10_000;
+        wall.rows[0].phases[column] = phase;
     }
     wall
 }

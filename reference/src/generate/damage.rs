@@ -1,4 +1,4 @@
-//! Damaged files: cut short, too long, wrong tags and lengths, and random bytes.
+//! Damaged files: cut short, too long, wrong tags and lengths, tag 4 in its old form, and random bytes.
 
 use super::describe::{Description, Encoded};
 use super::rng::Rng;
@@ -6,17 +6,18 @@ use super::rng::Rng;
 /// A damaged file of this wall; now and then the damage leaves it sound.
 pub fn damaged(rng: &mut Rng, wall: &Description) -> Vec<u8> {
     let encoded = wall.encode();
-    match rng.below(20) {
+    match rng.below(23) {
         0 => Vec::new(),
         1..=2 => cut_anywhere(rng, encoded),
-        3..=6 => cut_at_a_field(rng, encoded),
-        7..=8 => lengthened(rng, wall, encoded),
-        9..=10 => wrong_tag(rng, encoded),
-        11..=12 => wrong_length(rng, encoded),
-        13 => rows_against_settings(rng, wall),
-        14 => field_moved(rng, encoded),
-        15..=17 => flipped(rng, encoded),
-        18 => random_bytes(rng),
+        3..=8 => cut_at_a_field(rng, encoded),
+        9..=10 => lengthened(rng, wall, encoded),
+        11..=12 => wrong_tag(rng, encoded),
+        13..=14 => wrong_length(rng, encoded),
+        15 => rows_against_settings(rng, wall),
+        16 => field_moved(rng, encoded),
+        17 => old_form(rng, wall),
+        18..=20 => flipped(rng, encoded),
+        21 => random_bytes(rng),
         _ => random_after_settings(rng, encoded),
     }
 }
@@ -122,6 +123,12 @@ fn field_moved(rng: &mut Rng, encoded: Encoded) -> Vec<u8> {
         _ => fields.swap(index, index + 1),
     }
     fields.concat()
+}
+
+/// Tag 4 as it was before there were phases, in all rows or from any row on.
+fn old_form(rng: &mut Rng, wall: &Description) -> Vec<u8> {
+    let any = rng.index(wall.rows.len());
+    wall.encode_old_from(rng.pick(&[0, any])).bytes
 }
 
 /// A few bytes, or single bits, changed anywhere.

@@ -21,6 +21,8 @@ pub struct RowDescription {
     pub marks: Vec<u8>,
     /// Tag 4: a drift for each tile.
     pub drifts: Vec<u16>,
+    /// Tag 4: a phase for each tile.
+    pub phases: Vec<u32>,
     /// Tag 4: the link values, tile by tile.
     pub links: Vec<Vec<u64>>,
 }
@@ -42,6 +44,7 @@ impl RowDescription {
             before,
             marks: &self.marks,
             drifts: &self.drifts,
+            phases: &self.phases,
             links: flat_links,
         }
     }
@@ -69,15 +72,24 @@ impl Encoded {
 impl Description {
     /// The wall file.
     pub fn encode(&self) -> Encoded {
+        self.encode_old_from(self.rows.len())
+    }
+
+    /// The wall file, but that tag 4 is as it was before there were phases from row `old` of the description on: the
+    /// drift and the links of each tile alone, 26W + 16 bytes.
+    pub fn encode_old_from(&self, old: usize) -> Encoded {
         let mut encoded = Encoded::default();
         encoded.field(1, &settings_body(&self.numbers));
         let start: Vec<u8> = self.start.iter().flat_map(|t| t.to_be_bytes()).collect();
         encoded.field(2, &start);
-        for row in &self.rows {
+        for (index, row) in self.rows.iter().enumerate() {
             encoded.field(3, &row.marks);
             let mut body = Vec::new();
-            for (drift, links) in row.drifts.iter().zip(&row.links) {
-                body.extend(drift.to_be_bytes());
+            for (tile, links) in row.links.iter().enumerate() {
+                body.extend(row.drifts[tile].to_be_bytes());
+                if index < old {
+                    body.extend(row.phases[tile].to_be_bytes());
+                }
                 body.extend(links.iter().flat_map(|value| value.to_be_bytes()));
             }
             encoded.field(4, &body);

@@ -4,11 +4,11 @@
 use super::describe::{Description, RowDescription};
 use super::rng::Rng;
 use crate::row::Wall;
-use crate::settings::{Numbers, Settings};
+use crate::settings::{Numbers, Settings, MILLION};
 use crate::shape::is_marked;
-use crate::{LATEST_ARRIVAL, LATEST_START, SILENT};
+use crate::{Tick, LARGEST_PHASE, LATEST_ARRIVAL, LATEST_START, SILENT};
 
-/// How the drifts, or the delays, of a row are chosen between their limits.
+/// How the drifts, the phases or the delays of a row are chosen between their limits.
 #[derive(Clone, Copy)]
 enum Between {
     Lowest,
@@ -84,6 +84,9 @@ fn near(rng: &mut Rng, unit: u32, time: u64) -> u64 {
 /// How a wall's rows are made.
 struct Style {
     drifts: Between,
+    phases: Between,
+    /// How likely a row has phases at which stamps and pulses change, of 100.
+    phases_at_steps: u64,
     delays: Between,
     /// How likely a row has faulty predecessors, of 100.
     faulty_rows: u64,
@@ -93,6 +96,8 @@ impl Style {
     fn new(rng: &mut Rng) -> Style {
         Style {
             drifts: rng.pick(&Between::ALL),
+            phases: rng.pick(&Between::ALL),
+            phases_at_steps: rng.pick(&[0, 0, 50, 100]),
             delays: rng.pick(&Between::ALL),
             faulty_rows: rng.pick(&[0, 0, 30, 60, 90, 100]),
         }
@@ -209,7 +214,7 @@ fn fitting_columns(
     chosen
 }
 
-/// One row: drifts and delays in this style, and what the faulty tiles send.
+/// One row: drifts, phases and delays in this style, and what the faulty tiles send.
 fn row(
     rng: &mut Rng,
     wall: &Wall,
@@ -222,6 +227,7 @@ fn row(
     let mut row = RowDescription {
         marks: vec![0; wall.shape().mark_bytes()],
         drifts: Vec::new(),
+        phases: Vec::new(),
         links: Vec::new(),
     };
     for &column in faulty {
@@ -232,6 +238,8 @@ fn row(
     for tile in 0..w {
         let drift = style.drifts.choose(rng, 0, u64::from(numbers.drift_limit));
         row.drifts.push(drift as u16);
+        let phase = style.phases.choose(rng, 0, LARGEST_PHASE.into());
+        row.phases.push(phase as u32);
         let senders = wall.shape().predecessors(tile).iter();
         let links = senders.map(|&sender| {
             if is_marked(&row.marks, sender) {
@@ -245,11 +253,37 @@ fn row(
         let links = links.collect();
         row.links.push(links);
     }
+    if rng.chance(style.phases_at_steps) {
+        put_phases_at_steps(rng, wall, &mut row, before);
+    }
     row
 }
 
-/// Rows as a wall in use might have them: pulses within a unit, random drifts and delays, and
-/// about `percent` of 100 tiles faulty.
+/// Gives each tile the least phase with which its clock comes to a further reading at an arrival, at the tile's pulse or
+/// at the tick before that; or one less.
+fn put_phases_at_steps(rng: &mut Rng, wall: &Wall, row: &mut RowDescription, before: &[u64]) {
+    let links = row.flat_links();
+    let (mut times, mut letters) = (vec![0; before.len()], vec![0; before.len()]);
+    wall.row(&row.lent(before, &links), &mut times, &mut letters)
+        .expect("a sound row");
+    for (tile, &time) in times.iter().enumerate() {
+        let senders = wall.shape().predecessors(tile);
+        let place = rng.index(senders.len());
+        let (sender, value) = (senders[place], row.links[tile][place]);
+        let arrival = if is_marked(&row.marks, sender) {
+            value
+        } else {
+            before[sender] + value
+        };
+        let tick = Tick::from(rng.pick(&[arrival, time, time - 1]));
+        let past = tick * (MILLION + Tick::from(row.drifts[tile])) % MILLION;
+        let least = ((MILLION - past) % MILLION) as u32;
+        row.phases[tile] = least.saturating_sub(rng.below(2) as u32);
+    }
+}
+
+/// Rows as a wall in use might have them: pulses within a unit, random drifts, phases and delays,
+/// and about `percent` of 100 tiles faulty.
 pub fn realistic_rows(rng: &mut Rng, numbers: Numbers, percent: f64) -> Description {
     let wall = Wall::new(Settings::new(numbers).expect("sound settings")).expect("sound settings");
     let w = wall.shape().columns();
@@ -258,6 +292,8 @@ pub fn realistic_rows(rng: &mut Rng, numbers: Numbers, percent: f64) -> Descript
         .collect();
     let style = Style {
         drifts: Between::Random,
+        phases: Between::Random,
+        phases_at_steps: 0,
         delays: Between::Random,
         faulty_rows: 0,
     };

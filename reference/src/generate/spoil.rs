@@ -1,11 +1,11 @@
 //! Contents past their limits in a file whose fields are framed rightly: refusals 1 to 9, 22, 24 to
-//! 26 and 45.
+//! 26, 45 and 53.
 
 use super::describe::{Description, RowDescription};
 use super::rng::Rng;
 use crate::settings::Numbers;
 use crate::shape::{is_marked, Shape};
-use crate::{LATEST_ARRIVAL, LATEST_START, SILENT};
+use crate::{LARGEST_PHASE, LATEST_ARRIVAL, LATEST_START, SILENT};
 
 /// Spoils one of the seven numbers, or a few, most often just past a limit.
 pub fn settings(rng: &mut Rng, numbers: &mut Numbers) {
@@ -63,15 +63,16 @@ pub fn start(rng: &mut Rng, wall: &mut Description) {
     }
 }
 
-/// Spoils one thing of a row: a stray mark, two faulty predecessors, a drift or a link value.
+/// Spoils one thing of a row: a stray mark, two faulty predecessors, a drift, a phase or a link value.
 pub fn row(rng: &mut Rng, wall: &mut Description, index: usize) {
     let numbers = wall.numbers;
     let row = &mut wall.rows[index];
-    match rng.below(9) {
+    match rng.below(11) {
         0..=1 if !numbers.columns.is_multiple_of(8) => stray_mark(rng, &numbers, row),
         0..=3 => faulty_neighbours(rng, &numbers, row),
         4..=5 => drift(rng, &numbers, row),
-        6 => unmark(row),
+        6..=7 => phase(rng, row),
+        8 => unmark(row),
         _ => link(rng, &numbers, row),
     }
 }
@@ -110,6 +111,16 @@ fn drift(rng: &mut Rng, numbers: &Numbers, row: &mut RowDescription) {
     let column = rng.pick(&[0, w - 1, random]);
     let past = numbers.drift_limit as u16 + 1;
     row.drifts[column] = rng.pick(&[past, past, past, u16::MAX]);
+}
+
+/// 53: a phase over 999,999.
+fn phase(rng: &mut Rng, row: &mut RowDescription) {
+    let w = row.phases.len();
+    let random = rng.index(w);
+    let column = rng.pick(&[0, w - 1, random]);
+    let past = LARGEST_PHASE + 1;
+    let any = rng.range(past.into(), u32::MAX.into()) as u32;
+    row.phases[column] = rng.pick(&[past, past, past, any, u32::MAX]);
 }
 
 /// The arrivals of the faulty tiles stay and their marks go, so that they are read as delays.

@@ -88,6 +88,7 @@ pub struct WallFile {
 pub struct FileRow {
     pub marks: u8,
     pub drifts: [u16; 6],
+    pub phases: [u32; 6],
     pub links: [u64; 20],
 }
 
@@ -95,15 +96,16 @@ pub struct FileRow {
 pub const TAG_2: usize = 27;
 pub const TAG_3: usize = 78;
 pub const TAG_4: usize = 82;
-pub const LAST_TAG_3: usize = 257;
-pub const LAST_TAG_4: usize = 261;
-pub const END: usize = 436;
+pub const LAST_TAG_3: usize = 281;
+pub const LAST_TAG_4: usize = 285;
+pub const END: usize = 484;
 
 impl WallFile {
     pub fn small() -> WallFile {
         let row = FileRow {
             marks: 0,
             drifts: [0; 6],
+            phases: [0; 6],
             links: [100; 20],
         };
         WallFile {
@@ -133,10 +135,11 @@ impl WallFile {
         for row in &self.rows {
             field(&mut bytes, 3, 1);
             bytes.push(row.marks);
-            field(&mut bytes, 4, 172);
+            field(&mut bytes, 4, 196);
             let mut values = row.links.iter().zip(links(6)).peekable();
             for tile in 0..6 {
                 bytes.extend(row.drifts[tile].to_be_bytes());
+                bytes.extend(row.phases[tile].to_be_bytes());
                 while let Some((value, _)) = values.next_if(|&(_, (of, _))| of == tile) {
                     bytes.extend(value.to_be_bytes());
                 }

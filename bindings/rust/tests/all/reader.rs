@@ -185,7 +185,7 @@ fn search_ranges_of_other_files() {
     }
     let longer = [&bytes[..], &[0]].concat();
     match Reader::new(&longer[..]).search_range() {
-        Err(error) => assert!(error.to_string().starts_with("refused 44 at 436: ")),
+        Err(error) => assert!(error.to_string().starts_with("refused 44 at 484: ")),
         other => panic!("{other:?}"),
     }
     let failed = Reader::new(Halting::new(&bytes, true)).search_range();

@@ -53,11 +53,13 @@ fn tiles_say_what_is_wrong() {
     says(tile(&[None, None]), 13);
 }
 
-fn row(marks: u8, time: u64, drift: u32, link: u64, length: usize) -> Refusal {
+fn row(marks: u8, time: u64, clock: [u32; 2], link: u64, length: usize) -> Refusal {
+    let [drift, phase] = clock;
     let lent = Lent {
         before: &[time; 6],
         marks: &[marks],
         drifts: &[drift; 6],
+        phases: &[phase; 6],
         links: &[link; 20],
     };
     let (times, letters) = (&mut vec![0; length], &mut [Letter::Kept; 6]);
@@ -66,12 +68,13 @@ fn row(marks: u8, time: u64, drift: u32, link: u64, length: usize) -> Refusal {
 
 #[test]
 fn rows_say_what_is_wrong() {
-    says(row(0, 0, 0, 100, 5), 21);
-    says(row(0x40, 0, 0, 100, 6), 22);
-    says(row(0, 1 << 40, 0, 100, 6), 23);
-    says(row(3, 0, 0, 100, 6), 24);
-    says(row(0, 0, 1, 100, 6), 25);
-    says(row(0, 0, 0, 89, 6), 26);
+    says(row(0, 0, [0, 0], 100, 5), 21);
+    says(row(0x40, 0, [0, 0], 100, 6), 22);
+    says(row(0, 1 << 40, [0, 0], 100, 6), 23);
+    says(row(3, 0, [0, 0], 100, 6), 24);
+    says(row(0, 0, [1, 0], 100, 6), 25);
+    says(row(0, 0, [0, 1_000_000], 100, 6), 53);
+    says(row(0, 0, [0, 0], 89, 6), 26);
 }
 
 #[test]
@@ -97,7 +100,10 @@ fn files_say_where() {
     };
     is(&[1, 0, 23], 42, 0);
     is(&[], 43, 0);
-    is(&[whole.bytes(), vec![0]].concat(), 44, 436);
+    is(&[whole.bytes(), vec![0]].concat(), 44, 484);
+    let mut phased = whole.clone();
+    phased.rows[1].phases[5] = 1_000_000;
+    is(&phased.bytes(), 53, 285);
     let late = WallFile {
         start: [1 << 39; 6],
         ..whole

@@ -1,4 +1,4 @@
-//! A row: times and letters worked out by hand, numbers 21 to 26 and the order between them.
+//! A row: times and letters worked out by hand, numbers 21 to 26 and 53, and the order between them.
 
 use crate::common::{hears, letters, links, settings, PRINTED};
 use polzaintu::row::{self, Ends, Lent, SILENT};
@@ -13,13 +13,14 @@ struct Call {
     before: Vec<u64>,
     marks: Vec<u8>,
     drifts: Vec<u32>,
+    phases: Vec<u32>,
     links: Vec<u64>,
     times: Vec<u64>,
     letters: Vec<Letter>,
 }
 
 impl Call {
-    /// No faults: all times 1000, drifts 0, delays 100.
+    /// No faults: all times 1000, drifts and phases 0, delays 100.
     fn quiet(width: usize) -> Call {
         Call {
             limits: Limits {
@@ -29,10 +30,23 @@ impl Call {
             before: vec![1000; width],
             marks: vec![0; width.div_ceil(8)],
             drifts: vec![0; width],
+            phases: vec![0; width],
             links: vec![100; 3 * width + 2],
             times: (0..width as u64).map(|c| 0xa5a5 + 31 * c).collect(),
             letters: (0..width).map(|c| Letter::ALL[c % 5]).collect(),
         }
+    }
+
+    /// The same with all clocks of drift 10,000.
+    fn drifting(width: usize) -> Call {
+        let mut call = Call::quiet(width);
+        call.limits = Limits {
+            drift: 10_000,
+            unit: 16,
+            ..call.limits
+        };
+        call.drifts.fill(10_000);
+        call
     }
 
     fn mark(&mut self, column: usize) {
@@ -54,6 +68,7 @@ impl Call {
             before: &self.before,
             marks: &self.marks,
             drifts: &self.drifts,
+            phases: &self.phases,
             links: &self.links,
         };
         row::plan(&settings(self.limits), lent, times, letters).map_err(|refusal| refusal.number())
@@ -102,6 +117,57 @@ fn drifts_round() {
     call.drifts[1] = 10_000;
     call.drifts[5] = 10_000;
     call.planned(&[1500, 1497, 1500, 1500, 1500, 1497], "kkkkkk", 1497, 1500);
+}
+
+/// All arrivals at 1100 read 1111 at each phase; at 1496 it is 1510.96, so that from phase 40,000 on
+/// 1511 is met a tick earlier.
+#[test]
+fn phases_move_pulses() {
+    let mut call = Call::drifting(6);
+    call.phases = vec![0, 39_999, 40_000, 999_999, 39_999, 40_000];
+    call.planned(&[1497, 1497, 1496, 1496, 1497, 1496], "kkkkkk", 1496, 1497);
+    call.phases[5] = 1_000_000;
+    call.refused(53);
+}
+
+/// Arrivals at 1099 are at 1109.99: from phase 10,000 on they read 1110, and the pulse waits for 1510,
+/// of which 1495 lacks 0.05.
+#[test]
+fn phases_move_stamps() {
+    let mut call = Call::drifting(6);
+    call.before.fill(999);
+    call.phases = vec![0, 9_999, 10_000, 49_999, 50_000, 999_999];
+    call.planned(&[1495, 1495, 1496, 1496, 1495, 1495], "kkkkkk", 1495, 1496);
+}
+
+/// In a wide row, where most tiles are worked out eight at a time: two like tiles but for the phase
+/// are a tick apart.
+#[test]
+fn phases_of_a_wide_row() {
+    let mut call = Call::drifting(256);
+    call.phases = (0..256).map(|column| 39_999 + column % 2).collect();
+    let due: Vec<u64> = (0..256).map(|column| 1497 - column % 2).collect();
+    call.planned(&due, &"k".repeat(256), 1496, 1497);
+}
+
+/// A clock that doesn't drift reads the same at every phase.
+#[test]
+fn phases_without_drift() {
+    let mut call = Call::quiet(6);
+    call.before[3] = 1080;
+    call.phases.fill(999_999);
+    call.planned(&[1500, 1500, 1500, 1536, 1500, 1500], "kkklkk", 1500, 1536);
+}
+
+/// Own at 1115 is at 1126.15, the neighbours read 1111: with a phase of 0.85 own is h after them.
+#[test]
+fn phases_decide_letters() {
+    for (phase, letter) in [(849_999, Letter::Kept), (850_000, Letter::Middle)] {
+        let mut call = Call::drifting(9);
+        call.before[4] = 1015;
+        call.phases[4] = phase;
+        assert_eq!(call.accepted()[4], letter);
+    }
 }
 
 /// Column 3 is heard by tiles 2 to 5.
@@ -159,6 +225,7 @@ fn wrong_lengths() {
         tried(call, |call| &mut call.before);
         tried(call, |call| &mut call.marks);
         tried(call, |call| &mut call.drifts);
+        tried(call, |call| &mut call.phases);
         tried(call, |call| &mut call.links);
         tried(call, |call| &mut call.times);
         tried(call, |call| &mut call.letters);
@@ -227,6 +294,33 @@ fn fast_drifts() {
 }
 
 #[test]
+fn large_phases() {
+    for column in 0..9 {
+        let mut call = Call::quiet(9);
+        call.phases[column] = 999_999;
+        call.accepted();
+        for large in [1_000_000, 1_000_001, 1 << 24, 1 << 31, u32::MAX] {
+            call.phases[column] = large;
+            call.refused(53);
+        }
+    }
+}
+
+/// A phase over its limit in one column, a drift or a delay over its own in another.
+#[test]
+fn phases_between_drifts_and_links() {
+    for (phase, other) in (0..9).flat_map(|phase| (0..9).map(move |other| (phase, other))) {
+        let mut call = Call::quiet(9);
+        call.phases[phase] = 1_000_000;
+        let link = links(9).into_iter().position(|link| link == (other, other));
+        call.links[link.unwrap()] = 101;
+        call.refused(53);
+        call.drifts[other] = 1;
+        call.refused(25);
+    }
+}
+
+#[test]
 fn bad_links() {
     for place in 0..3 * 9 + 2 {
         let mut call = Call::quiet(9);
@@ -248,12 +342,14 @@ fn bad_links() {
     }
 }
 
-/// Each fault is added to those of higher numbers.
+/// Each fault is added to those that come after it.
 #[test]
-fn lowest_applies() {
+fn first_applies() {
     let mut call = Call::quiet(9);
     call.links[0] = 101;
     call.refused(26);
+    call.phases[8] = 1_000_000;
+    call.refused(53);
     call.drifts[8] = 1;
     call.refused(25);
     call.mark(4);

@@ -63,7 +63,7 @@ fn accepted_wall() {
     assert_eq!((wall.last_row(), wall.last_letters()), (None, None));
 
     assert_eq!(step(&mut wall, &bytes, &mut taken), Ok(None));
-    assert_eq!((wall.stage(), wall.due()), (Stage::Row, 4 + 3 + 172));
+    assert_eq!((wall.stage(), wall.due()), (Stage::Row, 4 + 3 + 196));
     assert_eq!(wall.last_row(), Some((0, &file.start[..])));
     assert_eq!(wall.last_letters(), None);
 
@@ -129,6 +129,36 @@ fn faulty_tile() {
     assert_eq!(rows[1].letter(3), Some(Letter::Late));
 }
 
+/// Clocks of drift 10,000 in row 1, with phases, and an even row 0: 1511 is met a tick earlier from
+/// phase 40,000 on. In row 2 nothing drifts.
+#[test]
+fn phases() {
+    let (rows, refused) = run(&changed(|file| {
+        file.limits = Limits {
+            drift: 10_000,
+            unit: 16,
+            ..file.limits
+        };
+        file.start.fill(1000);
+        file.rows[0].drifts.fill(10_000);
+        file.rows[0].phases = [0, 39_999, 40_000, 999_999, 40_000, 39_999];
+        file.rows[1].phases.fill(999_999);
+    }));
+    assert_eq!(refused, None);
+    assert_eq!(rows[0].times(), [1497, 1497, 1496, 1496, 1496, 1497]);
+    assert_eq!(rows[1].times(), [1997, 1997, 1996, 1996, 1996, 1997]);
+}
+
+/// The form of tag 4 before there were phases, of which the length alone is looked at.
+#[test]
+fn old_form() {
+    for tag_4 in [TAG_4, LAST_TAG_4] {
+        let mut bytes = WallFile::small().bytes();
+        bytes[tag_4 + 2] = 172;
+        refused(&bytes, 42, tag_4);
+    }
+}
+
 #[test]
 fn cuts() {
     let bytes = WallFile::small().bytes();
@@ -179,12 +209,14 @@ fn late_starts() {
     }
 }
 
-/// Each fault is added to those of higher numbers; they are judged once tag 4 is there.
+/// Each fault is added to those that come after it; they are judged once tag 4 is there.
 #[test]
 fn row_numbers() {
     type Fault = fn(&mut FileRow);
-    let faults: [(u32, Fault); 4] = [
+    let faults: [(u32, Fault); 6] = [
         (26, |row| row.links[0] = 101),
+        (53, |row| row.phases[5] = 1_000_000),
+        (53, |row| row.phases[0] = u32::MAX),
         (25, |row| row.drifts[5] = 1),
         (24, |row| row.marks |= 3),
         (22, |row| row.marks |= 0x80),
@@ -196,7 +228,7 @@ fn row_numbers() {
             refused(&file.bytes(), number, tag_4);
         }
         let mut bytes = file.bytes();
-        refused(&bytes[..tag_4 + 3 + 171], 43, tag_4);
+        refused(&bytes[..tag_4 + 3 + 195], 43, tag_4);
         bytes[tag_4 + 2] ^= 1;
         refused(&bytes, 42, tag_4);
         bytes[tag_4] = 3;

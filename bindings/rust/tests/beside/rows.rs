@@ -23,6 +23,7 @@ struct Call {
     before: Vec<u64>,
     marks: Vec<u8>,
     drifts: Vec<u32>,
+    phases: Vec<u32>,
     links: Vec<u64>,
     times: Vec<u64>,
     letters: Vec<Letter>,
@@ -46,8 +47,7 @@ struct Ends {
 pub fn run(seed: u64, tally: &mut Tally) -> Result<(), Difference> {
     let rng = &mut Rng::new(seed);
     let described = described(rng);
-    let settings = settings::Settings::new(described.numbers);
-    let wall = settings.and_then(Wall::new).expect("sound settings");
+    let wall = wall_of(described.numbers);
     let mut before = described.start.clone();
     let mut calls = Vec::new();
     for index in 0..described.rows.len() {
@@ -58,7 +58,7 @@ pub fn run(seed: u64, tally: &mut Tally) -> Result<(), Difference> {
             } else {
                 Call::new(rng, &described, index, &before)
             };
-            let due = by_reference(&wall, &call);
+            let due = by_reference(&wall, &call, &call.phases);
             let given = by_library(&call);
             calls.push(call);
             tally.compare(&calls, &due, &given)?;
@@ -70,7 +70,13 @@ pub fn run(seed: u64, tally: &mut Tally) -> Result<(), Difference> {
     Ok(())
 }
 
-fn by_reference(wall: &Wall, call: &Call) -> Answered {
+fn wall_of(numbers: Numbers) -> Wall {
+    let settings = settings::Settings::new(numbers);
+    settings.and_then(Wall::new).expect("sound settings")
+}
+
+/// What the reference answers where the clocks have these phases.
+fn by_reference(wall: &Wall, call: &Call, phases: &[u32]) -> Answered {
     // Drifts have 16 bits there, the largest of which is over any r.
     let drift = |&drift: &u32| u16::try_from(drift).unwrap_or(u16::MAX);
     let drifts: Vec<u16> = call.drifts.iter().map(drift).collect();
@@ -78,6 +84,7 @@ fn by_reference(wall: &Wall, call: &Call) -> Answered {
         before: &call.before,
         marks: &call.marks,
         drifts: &drifts,
+        phases,
         links: &call.links,
     };
     let mut times = call.times.clone();
@@ -108,6 +115,7 @@ fn by_library(call: &Call) -> Answered {
         before: &call.before,
         marks: &call.marks,
         drifts: &call.drifts,
+        phases: &call.phases,
         links: &call.links,
     };
     let (mut times, mut letters) = (call.times.clone(), call.letters.clone());
@@ -162,6 +170,7 @@ impl Call {
             before,
             marks: row.marks.clone(),
             drifts: row.drifts.iter().map(|&drift| drift.into()).collect(),
+            phases: row.phases.clone(),
             links: row.flat_links(),
         }
     }
@@ -207,12 +216,13 @@ impl Call {
             }
         }
         let longer = rng.chance(50);
-        match rng.below(6) {
+        match rng.below(7) {
             0 => resize(&mut self.before, longer),
             1 => resize(&mut self.marks, longer),
             2 => resize(&mut self.drifts, longer),
-            3 => resize(&mut self.links, longer),
-            4 => resize(&mut self.times, longer),
+            3 => resize(&mut self.phases, longer),
+            4 => resize(&mut self.links, longer),
+            5 => resize(&mut self.times, longer),
             _ => resize(&mut self.letters, longer),
         }
     }

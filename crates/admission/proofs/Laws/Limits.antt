@@ -13,22 +13,24 @@ use Rattle.settings.specs.declared.Settings.{Settings}
 use Rattle.settings.proofs.Laws.AnyBelow.{none-below, none-till}
 use Rattle.settings.proofs.Laws.Cases.{by-order, by-equal}
 use Rattle.settings.proofs.Laws.Refusal.{within}
+use Rattle.rule.specs.Clock.{phase-most}
 use Rattle.rule.specs.Stamp.{silence}
 use Rattle.columns.specs.Columns.{columns-from, any-of, is-predecessor, predecessors, link, link-place}
 use Rattle.columns.specs.Marks.{marked, mark-bytes, faulty-among}
 use Rattle.columns.proofs.Laws.Lists.{by-test, none-of}
 use Rattle.links.specs.Links.{latest-time, bad-value, bad-link, bad-links}
 use Rattle.admission.specs.Limits.{Hears, Link-at, Tile-limits}
-use Rattle.admission.specs.Refusal.{stray-mark, crowded, fast}
+use Rattle.admission.specs.Refusal.{stray-mark, crowded, over}
 use Rattle.admission.proofs.Laws.Accepted.{delay-of, arrival-of}
 use Rattle.admission.proofs.Laws.Hears.{hears-true, true-hears, link-there, link-is, two-marked, one-marked}
 use Rattle.admission.proofs.Laws.Quiet.{unmarked}
 
 -- the tests of a row's marks, drifts and link values
-pub record None-applies (s : Settings) (ms ds ls : List ℕ) : Type 0 where
+pub record None-applies (s : Settings) (ms ds qs ls : List ℕ) : Type 0 where
   pub none-stray : any-below (8 * mark-bytes (s .width)) (stray-mark (s .width) ms) ≡ false
   pub none-crowded : any-below (s .width) (crowded (s .width) ms) ≡ false
-  pub none-fast : any-below (s .width) (fast (s .drift) ds) ≡ false
+  pub none-fast : any-below (s .width) (over (s .drift) ds) ≡ false
+  pub none-out-of-phase : any-below (s .width) (over phase-most qs) ≡ false
   pub none-bad : any-below (s .width) (bad-links s ms ls) ≡ false
 
 -- a link value that is right
@@ -50,9 +52,9 @@ none-taken f h (suc n) a e =
     let rest = none-taken f h n (suc a) (λ k i j t. e k (omega arith) (omega arith) t) in
     by-test (f a) (λ t. rw (t, e a (omega arith) (omega arith) t) rest) (λ t. rw t rest)
 
-module _ (s : Settings) (ms ds ls : List ℕ) (wide : 6 ≤ s .width) where
+module _ (s : Settings) (ms ds qs ls : List ℕ) (wide : 6 ≤ s .width) where
   -- within the limits no test applies
-  module _ (k : Tile-limits s ms ds ls) where
+  module _ (k : Tile-limits s ms ds qs ls) where
     no-stray : (c : ℕ) → stray-mark (s .width) ms c ≡ false
     unfolding stray-mark
     no-stray c = by-order (s .width) c (λ i. rw (k .no-stray c i) (and-false (leb (s .width) c))) (λ i. rw (lt-leb (s .width) c i))
@@ -81,18 +83,19 @@ module _ (s : Settings) (ms ds ls : List ℕ) (wide : 6 ≤ s .width) where
         (λ p. arrival-right s v (marked ms a) p (k .arrival c a (link-place (s .width) c a) i in-row h at p))
         (λ p. delay-right s v (marked ms a) p (k .delay c a (link-place (s .width) c a) i in-row h at p)))
 
-    pub none-applies : None-applies s ms ds ls
-    unfolding fast
+    pub none-applies : None-applies s ms ds qs ls
+    unfolding over
     none-applies =
         record {
           none-stray = none-till _ (8 * mark-bytes (s .width)) (λ c i. no-stray c);
           none-crowded = none-till _ (s .width) not-crowded;
           none-fast = none-till _ (s .width) (λ c i. le-ltb (s .drift) (getD ds c 0) (omega (arith, k .slow c i)));
+          none-out-of-phase = none-till _ (s .width) (λ c i. le-ltb phase-most (getD qs c 0) (omega (arith, k .in-phase c i)));
           none-bad = none-till _ (s .width) not-bad;
         }
 
   -- and where none applies they are within the limits
-  module _ (long : length ms ≡ mark-bytes (s .width)) (t : None-applies s ms ds ls) where
+  module _ (long : length ms ≡ mark-bytes (s .width)) (t : None-applies s ms ds qs ls) where
     right-marks : (c : ℕ) → s .width ≤ c → marked ms c ≡ false
     unfolding stray-mark
     right-marks c i =
@@ -117,8 +120,8 @@ module _ (s : Settings) (ms ds ls : List ℕ) (wide : 6 ≤ s .width) where
         ∙ none-of (is-predecessor (s .width) c) (bad-link s ms ls c) (s .width) 0 (none-below (bad-links s ms ls) (s .width) c i (t .none-bad)) a (omega arith)
         (omega (arith, j)) (hears-true (s .width) c a h)
 
-    pub within-limits : Tile-limits s ms ds ls
-    unfolding fast
+    pub within-limits : Tile-limits s ms ds qs ls
+    unfolding over
     within-limits =
         record {
           no-stray = right-marks;
@@ -126,6 +129,7 @@ module _ (s : Settings) (ms ds ls : List ℕ) (wide : 6 ≤ s .width) where
               (λ o. by-equal a b (λ e. e) (λ n. absurd (not-two c a b i (omega arith) l h g p q)))
               (λ o. absurd (not-two c b a i o j g h q p));
           slow = λ c i. omega (arith, ltb-false (s .drift) (getD ds c 0) (none-below _ (s .width) c i (t .none-fast)));
+          in-phase = λ c i. omega (arith, ltb-false phase-most (getD qs c 0) (none-below _ (s .width) c i (t .none-out-of-phase)));
           delay = λ c a n i j h at p. delay-of s (marked ms a) (getD ls n 0) p (right-value c a n i j h at);
           arrival = λ c a n i j h at p. by-equal (getD ls n 0) silence inr
               (λ o. inl (arrival-of s (marked ms a) (getD ls n 0) p (right-value c a n i j h at) o));

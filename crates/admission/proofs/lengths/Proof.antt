@@ -31,12 +31,6 @@ returns-3 c =
       ne-eqb (a .drifts) (a .width) (c .if3 .taken),
     )
 
-mul-if4 : tie.Need-mul-if4
-mul-if4 c = search needs
-
-add-if4 : tie.Need-add-if4
-add-if4 c = search needs
-
 returns-4 : tie.Need-returns-4
 unfolding lengths-are mark-bytes
 returns-4 c =
@@ -46,8 +40,14 @@ returns-4 c =
       eq-eqb (a .before) (a .width) (e .before .if1 .left),
       eq-eqb (a .marks) ((a .width + 7) / 8) (e .if2 .left),
       eq-eqb (a .drifts) (a .width) (c .before .if3 .left),
-      ne-eqb (a .links) (3 * a .width + 2) (c .if4 .taken),
+      ne-eqb (a .phases) (a .width) (c .if4 .taken),
     )
+
+mul-if5 : tie.Need-mul-if5
+mul-if5 c = search needs
+
+add-if5 : tie.Need-add-if5
+add-if5 c = search needs
 
 returns-5 : tie.Need-returns-5
 unfolding lengths-are mark-bytes
@@ -59,24 +59,42 @@ returns-5 c =
       eq-eqb (a .before) (a .width) (e .before .if1 .left),
       eq-eqb (a .marks) ((a .width + 7) / 8) (e .if2 .left),
       eq-eqb (a .drifts) (a .width) (f .if3 .left),
-      eq-eqb (a .links) (3 * a .width + 2) (c .before .if4 .left),
-      ne-eqb (a .room) (a .width) (c .if5 .taken),
+      eq-eqb (a .phases) (a .width) (c .before .if4 .left),
+      ne-eqb (a .links) (3 * a .width + 2) (c .if5 .taken),
     )
 
 returns-6 : tie.Need-returns-6
 unfolding lengths-are mark-bytes
 returns-6 c =
-    let f = c .before .before in
+    let g = c .before .before in
+    let f = g .before in
     let e = f .before in
     let a = e .before .before .args in
     rw (
       eq-eqb (a .before) (a .width) (e .before .if1 .left),
       eq-eqb (a .marks) ((a .width + 7) / 8) (e .if2 .left),
       eq-eqb (a .drifts) (a .width) (f .if3 .left),
-      eq-eqb (a .links) (3 * a .width + 2) (c .before .if4 .left),
-      eq-eqb (a .room) (a .width) (c .if5 .left),
+      eq-eqb (a .phases) (a .width) (g .if4 .left),
+      eq-eqb (a .links) (3 * a .width + 2) (c .before .if5 .left),
+      ne-eqb (a .room) (a .width) (c .if6 .taken),
+    )
+
+returns-7 : tie.Need-returns-7
+unfolding lengths-are mark-bytes
+returns-7 c =
+    let g = c .before .before in
+    let f = g .before in
+    let e = f .before in
+    let a = e .before .before .args in
+    rw (
+      eq-eqb (a .before) (a .width) (e .before .if1 .left),
+      eq-eqb (a .marks) ((a .width + 7) / 8) (e .if2 .left),
+      eq-eqb (a .drifts) (a .width) (f .if3 .left),
+      eq-eqb (a .phases) (a .width) (g .if4 .left),
+      eq-eqb (a .links) (3 * a .width + 2) (c .before .if5 .left),
+      eq-eqb (a .room) (a .width) (c .if6 .left),
     )
 
 pub lengths-spec : {M : Type 1} → statement M
 lengths-spec =
-    tie.close (tie.spec returns add-if2 returns-2 returns-3 mul-if4 add-if4 returns-4 returns-5 returns-6)
+    tie.close (tie.spec returns add-if2 returns-2 returns-3 returns-4 mul-if5 add-if5 returns-5 returns-6 returns-7)

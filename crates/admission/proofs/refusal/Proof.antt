@@ -15,13 +15,13 @@ use Rattle.admission.proofs.refusal.Statement.{statement}
 use Rattle.admission.proofs.refusal.Tie as tie
 
 abbrev start : tie.Else1 → tie.Start
-start c = c .before .before .before .before .before .before
+start c = c .before .before .before .before .before .before .before
 
 -- the first k tests do not apply
 abbrev Past : (k : ℕ) → tie.Start → Type 0
 Past k s =
     let a = s .args in
-    let x = call (a .marks .now) (a .drifts .now) (a .links .now) (a .room) (a .letters) in
+    let x = call (a .marks .now) (a .drifts .now) (a .phases .now) (a .links .now) (a .room) (a .letters) in
     row-refusal (a .settings) (a .before .now) x ≡ first (drop k (row-tests (a .settings) (a .before .now) x))
 
 -- the settings are accepted
@@ -38,10 +38,10 @@ past-1 c = skip-given _ _ (accepted c)
 -- the lengths are right
 lengths-of : (c : tie.Else2) →
     let a = start (c .before .before) .args in
-    Sized (a .settings .width) (length (a .before .now)) (length (a .marks .now)) (length (a .drifts .now)) (length (a .links .now)) (a .room) (a .letters)
+    Sized (a .settings .width) (length (a .before .now)) (length (a .marks .now)) (length (a .drifts .now)) (length (a .phases .now)) (length (a .links .now)) (a .room) (a .letters)
 lengths-of c =
     let a = start (c .before .before) .args in
-    sized (a .settings .width) (length (a .before .now)) (length (a .marks .now)) (length (a .drifts .now)) (length (a .links .now)) (a .room) (a .letters)
+    sized (a .settings .width) (length (a .before .now)) (length (a .marks .now)) (length (a .drifts .now)) (length (a .phases .now)) (length (a .links .now)) (a .room) (a .letters)
     (rw (c .before .lengths .ensures) at (not-false (c .before .lengths .result) (c .if2 .left)))
 
 past-2 : (c : tie.Else2) → Past 2 (start (c .before .before))
@@ -62,7 +62,11 @@ past-5 c = past-4 (c .before .before) ∙ skip 24 _ (sym (c .before .crowded .en
 
 past-6 : (c : tie.Else6) → Past 6 (start (c .before .before .before .before .before .before .before .before .before .before))
 unfolding row-refusal row-tests call lengths-right
-past-6 c = past-5 (c .before .before) ∙ skip 25 _ (sym (c .before .fast .ensures) ∙ c .if6 .left)
+past-6 c = past-5 (c .before .before) ∙ skip 25 _ (sym (c .before .any-over .ensures) ∙ c .if6 .left)
+
+past-7 : (c : tie.Else7) → Past 7 (start (c .before .before .before .before .before .before .before .before .before .before .before .before))
+unfolding row-refusal row-tests call lengths-right
+past-7 c = past-6 (c .before .before) ∙ skip 53 _ (sym (c .before .any-over2 .ensures) ∙ c .if7 .left)
 
 refusal-requires : tie.Need-refusal-requires
 refusal-requires c κs = search needs
@@ -99,23 +103,30 @@ returns-5 : tie.Need-returns-5
 unfolding row-refusal row-tests call lengths-right
 returns-5 c = sym (past-4 (c .before .before) ∙ hit 24 _ (sym (c .before .crowded .ensures) ∙ c .if5 .taken))
 
-fast-requires : tie.Need-fast-requires
-fast-requires c κs = lengths-of (c .before .before .before .before .before .before) .drifts
+any-over-requires : tie.Need-any-over-requires
+any-over-requires c κs = lengths-of (c .before .before .before .before .before .before) .drifts
 
 returns-6 : tie.Need-returns-6
 unfolding row-refusal row-tests call lengths-right
-returns-6 c = sym (past-5 (c .before .before) ∙ hit 25 _ (sym (c .before .fast .ensures) ∙ c .if6 .taken))
+returns-6 c = sym (past-5 (c .before .before) ∙ hit 25 _ (sym (c .before .any-over .ensures) ∙ c .if6 .taken))
 
-any-bad-links-requires : tie.Need-any-bad-links-requires
-any-bad-links-requires c κs = let e = c .before .before .before .before .before .before .before .before in (accepted (e .before .before), refl, lengths-of e .marks, lengths-of e .links)
+any-over-requires-2 : tie.Need-any-over-requires-2
+any-over-requires-2 c κs = lengths-of (c .before .before .before .before .before .before .before .before) .phases
 
 returns-7 : tie.Need-returns-7
 unfolding row-refusal row-tests call lengths-right
-returns-7 c = sym (past-6 (c .before .before) ∙ hit 26 _ (sym (c .before .any-bad-links .ensures) ∙ c .if7 .taken))
+returns-7 c = sym (past-6 (c .before .before) ∙ hit 53 _ (sym (c .before .any-over2 .ensures) ∙ c .if7 .taken))
+
+any-bad-links-requires : tie.Need-any-bad-links-requires
+any-bad-links-requires c κs = let e = c .before .before .before .before .before .before .before .before .before .before in (accepted (e .before .before), refl, lengths-of e .marks, lengths-of e .links)
 
 returns-8 : tie.Need-returns-8
 unfolding row-refusal row-tests call lengths-right
-returns-8 c = sym (past-6 (c .before .before) ∙ end 26 (sym (c .before .any-bad-links .ensures) ∙ c .if7 .left))
+returns-8 c = sym (past-7 (c .before .before) ∙ hit 26 _ (sym (c .before .any-bad-links .ensures) ∙ c .if8 .taken))
+
+returns-9 : tie.Need-returns-9
+unfolding row-refusal row-tests call lengths-right
+returns-9 c = sym (past-7 (c .before .before) ∙ end 26 (sym (c .before .any-bad-links .ensures) ∙ c .if8 .left))
 
 pub refusal-spec : {M : Type 1} → statement M
 refusal-spec =
@@ -131,8 +142,10 @@ refusal-spec =
     returns-4
     crowded-requires
     returns-5
-    fast-requires
+    any-over-requires
     returns-6
-    any-bad-links-requires
+    any-over-requires-2
     returns-7
-    returns-8)
+    any-bad-links-requires
+    returns-8
+    returns-9)

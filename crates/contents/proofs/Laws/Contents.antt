@@ -14,7 +14,7 @@ use Rattle.columns.proofs.Laws.Lists.{by-test, table-length, table-at}
 use Rattle.columns.proofs.Promises.{links-counted}
 use Rattle.fields.specs.Bytes.{big-endian}
 use Rattle.fields.specs.Field.{field-refusal, body}
-use Rattle.contents.specs.Contents.{times-in, tile-place, drifts-in, tile-links, links-below, links-in, marks-field, row-size, marks-in}
+use Rattle.contents.specs.Contents.{times-in, tile-place, drifts-in, phases-in, tile-links, links-below, links-in, marks-field, row-size, marks-in}
 use Rattle.fields.proofs.Laws.Field.{field-there}
 
 pub body-length : (tag size : ℕ) (bs : List ℕ) → field-refusal tag size bs ≡ 0 → length (body size bs) ≡ size
@@ -34,6 +34,10 @@ module _ (w : ℕ) (bs : List ℕ) where
   unfolding drifts-in
   drifts-length = table-length _ w 0
 
+  pub phases-length : length (phases-in w bs) ≡ w
+  unfolding phases-in
+  phases-length = table-length _ w 0
+
   pub links-below-length : (c : ℕ) → length (links-below w bs c) ≡ links-before w c
   unfolding links-below links-before tile-links
   links-below-length zero = refl
@@ -48,7 +52,7 @@ module _ (w : ℕ) (bs : List ℕ) where
   marks-length e = body-length 3 (mark-bytes w) bs e
 
 -- the bytes of a row
-pub row-small : (w : ℕ) → w ≤ 256 → row-size w ≤ 6710
+pub row-small : (w : ℕ) → w ≤ 256 → row-size w ≤ 7734
 unfolding row-size marks-field mark-bytes
 row-small w i = omega arith
 
@@ -65,7 +69,7 @@ module _ (w : ℕ) (wide : 6 ≤ w) where
     unfolding links-before
     links-end = omega (arith, few-links (suc c) (omega arith))
 
-    pub tile-end : tile-place w c + 2 + 8 * length (predecessors w c) ≤ 26 * w + 16
+    pub tile-end : tile-place w c + 6 + 8 * length (predecessors w c) ≤ 30 * w + 16
     unfolding tile-place links-before
     tile-end = omega (arith, few-links (suc c) (omega arith))
 
@@ -81,7 +85,7 @@ module _ (w : ℕ) (wide : 6 ≤ w) where
     three-at-least =
         by-test (four-senders w c) (λ e. omega (arith, with-fourth e)) (λ e. omega (arith, three-senders e))
 
-    module _ (bs : List ℕ) (at : ℕ) (e : at ≡ tile-place w c + 2) where
+    module _ (bs : List ℕ) (at : ℕ) (e : at ≡ tile-place w c + 6) where
       pub three-links : four-senders w c ≡ false → tile-links w bs c ≡ big-endian 8 bs at ∷ big-endian 8 bs (at + 8) ∷ big-endian 8 bs (at + 16) ∷ []
       unfolding tile-links table-from
       three-links f = let z : at + 0 ≡ at = omega arith in rw (three-senders f, ← e, z)

@@ -60,7 +60,7 @@ module _ where
       (λ e. or-other (field-refusal 4 (tiles-size (s .width)) (drop (marks-field (s .width)) bs)) _
       (field-met 4 (tiles-size (s .width)) (drop (marks-field (s .width)) bs))
       (λ o. rw (limited s ts row bs e)
-      (or-later 22 _ _ refl (or-later 24 _ _ refl (or-later 25 _ _ refl (or-later 26 _ _ refl none))))))
+      (or-later 22 _ _ refl (or-later 24 _ _ refl (or-later 25 _ _ refl (or-later 53 _ _ refl (or-later 26 _ _ refl none)))))))
 
 pub settings-number-met : (bs : List ℕ) → Met (settings-number bs)
 unfolding settings-number

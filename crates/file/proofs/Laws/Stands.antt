@@ -35,7 +35,7 @@ over-ahead n i = record { stands = tt; less = i }
 
 module _ (s : Settings) (pass : settings-refusal s ≡ 0) where
   -- row l + 1 is accepted
-  row-ahead : (l at : ℕ) (b : Bool) → ltb (suc l) (s .rows) ≡ b → l < s .rows → at ≤ 2078 + 6710 * suc l →
+  row-ahead : (l at : ℕ) (b : Bool) → ltb (suc l) (s .rows) ≡ b → l < s .rows → at ≤ 2078 + 7734 * suc l →
       Ahead (after-row s (suc l) at) (s .rows - l + 1)
   unfolding after-row place Stands steps-left
   row-ahead l at true e i j =
@@ -43,7 +43,7 @@ module _ (s : Settings) (pass : settings-refusal s ≡ 0) where
       rw e (record { stands = (record { pass = pass; row = omega arith; offset = j }, more); less = omega arith })
   row-ahead l at false e i j = rw e (record { stands = record { pass = pass; row = omega arith; offset = j }; less = omega arith })
 
-  row-step-ahead : (l at : ℕ) (r : Pulses) (bs : List ℕ) (b : Bool) → eqb (row-number s (r .times) bs) 0 ≡ b → l < s .rows → at ≤ 2078 + 6710 * l →
+  row-step-ahead : (l at : ℕ) (r : Pulses) (bs : List ℕ) (b : Bool) → eqb (row-number s (r .times) bs) 0 ≡ b → l < s .rows → at ≤ 2078 + 7734 * l →
       Ahead (row-step s l at r bs .next) (s .rows - l + 1)
   unfolding row-step stepped away
   row-step-ahead l at r bs true e i j =

@@ -4,17 +4,17 @@ use mathlib.Core.Path.{_≡_, sym, _∙_}
 use mathlib.Core.Bool.{false}
 use mathlib.Core.List.{List}
 use Prim.Native.Nat.{ℕ, _+_, _-_, _*_, _≤_, _<_, min, max}
-use lib.ListN.{getD}
 use native.Mathlib.Omega.{arith}
 use Rattle.settings.specs.Settings.{step-of}
 use Rattle.rule.specs.Stamp.{code-of}
+use Rattle.rule.specs.declared.clock.Clock.{Clock}
 use Rattle.settings.specs.declared.Settings.{Settings}
 use Rattle.settings.proofs.Laws.Cases.{by-order, by-equal}
 use Rattle.settings.proofs.Laws.Settings.{Limits, limits}
 use Rattle.admission.specs.Call.{Call}
 use Rattle.columns.specs.Marks.{marked}
 use Rattle.columns.specs.Plain.{Plain}
-use Rattle.pulse.specs.Pulse.{stamp, pulsed-at}
+use Rattle.pulse.specs.Pulse.{clock-of, stamp, pulsed-at}
 use Rattle.pulse.specs.Plain.{Receivable, received, from-left, from-own, from-right, Correct, correct-pulse}
 use Rattle.pulse.specs.declared.Pulsed.{Pulsed}
 use Rattle.columns.proofs.Laws.Columns.{links-inner, neighbours-inner}
@@ -35,8 +35,8 @@ plain-column {w} {ms} {c} p k i j =
     (λ l. let e : k ≡ c - 1 = omega arith in rw e (p .left)))
 
 module _ {s : Settings} {ts : List ℕ} {x : Call} (r : Accepted s ts x) {c : ℕ} (p : Plain (s .width) (x .marks) c) (k : ℕ) (i : c ≤ k) (j : k < c + 8) where
-  abbrev drift : ℕ
-  drift = getD (x .drifts) k 0
+  abbrev clock : Clock
+  clock = clock-of (x .drifts) (x .phases) k
 
   bounds : Limits s
   bounds = limits s (r .settings)
@@ -63,13 +63,13 @@ module _ {s : Settings} {ts : List ℕ} {x : Call} (r : Accepted s ts x) {c : �
         sender (s .width) k wide here 2 (omega arith) (omega arith) (omega arith),
       )
 
-  receivable : {n q : ℕ} → Sender (s .width) k n q → marked (x .marks) n ≡ false → Receivable drift ts (x .links) n q
+  receivable : {n q : ℕ} → Sender (s .width) k n q → marked (x .marks) n ≡ false → Receivable clock ts (x .links) n q
   receivable e m =
       let t = stampable r k here e in
-      record { slow = t .slow; in-row = t .in-row; in-links = t .in-links; time = t .delay m .0; delay = t .delay m .1 }
+      record { clock-ok = t .clock-ok; in-row = t .in-row; in-links = t .in-links; time = t .delay m .0; delay = t .delay m .1 }
 
-  heard : {n q : ℕ} → Sender (s .width) k n q → marked (x .marks) n ≡ false → received drift ts (x .links) n q ≡ code-of (stamp (s .width) ts x k n)
-  heard {n} {q} e m = sym (stamped-correct drift ts (x .marks) (x .links) n q m) ∙ code r k here e
+  heard : {n q : ℕ} → Sender (s .width) k n q → marked (x .marks) n ≡ false → received clock ts (x .links) n q ≡ code-of (stamp (s .width) ts x k n)
+  heard {n} {q} e m = sym (stamped-correct clock ts (x .marks) (x .links) n q m) ∙ code r k here e
 
   correct-left : marked (x .marks) (k - 1) ≡ false
   correct-left = plain-column p (k - 1) (omega (arith, away .past)) (omega arith)
@@ -82,8 +82,8 @@ module _ {s : Settings} {ts : List ℕ} {x : Call} (r : Accepted s ts x) {c : �
 
   pulsing : (step : ℕ) →
       let ls = x .links in
-      Pulsing s ts x k (from-own s step drift ts ls k)
-      (min (from-left s step drift ts ls k) (from-right s step drift ts ls k)) (max (from-left s step drift ts ls k) (from-right s step drift ts ls k))
+      Pulsing s ts x k (from-own s step clock ts ls k)
+      (min (from-left s step clock ts ls k) (from-right s step clock ts ls k)) (max (from-left s step clock ts ls k) (from-right s step clock ts ls k))
   pulsing step =
       let a = away in
       let e = senders in
@@ -91,7 +91,7 @@ module _ {s : Settings} {ts : List ℕ} {x : Call} (r : Accepted s ts x) {c : �
       (heard (e .1) correct-own) (heard (e .0) correct-left) (heard (e .2) correct-right)
 
   module _ (step : ℕ) (e : step ≡ step-of s) where
-    pub plain-tile : Correct s step drift ts (x .links) k
+    pub plain-tile : Correct s step clock ts (x .links) k
     plain-tile =
         let a = away in
         let f = senders in
@@ -102,9 +102,9 @@ module _ {s : Settings} {ts : List ℕ} {x : Call} (r : Accepted s ts x) {c : �
           own = receivable (f .1) correct-own;
           right = receivable (f .2) correct-right;
           ready = ready-at (pulsing step) e;
-          held = bounds .hold .1;
+          held = bounds .hold;
         }
 
-    pub plain-pulse : {v : Pulsed} → v ≡ correct-pulse s step drift ts (x .links) k → v ≡ pulsed-at s ts x k
+    pub plain-pulse : {v : Pulsed} → v ≡ correct-pulse s step clock ts (x .links) k → v ≡ pulsed-at s ts x k
     unfolding correct-pulse
     plain-pulse h = pulses-at (pulsing step) e h

@@ -11,6 +11,7 @@ use Rattle.rule.specs.Clock.{reads}
 use Rattle.rule.specs.Stamp.{Stamp, _≼_, silence, code-of, earliest, latest, latest-stamp, All, none, more}
 use Rattle.rule.specs.Closed.{Forwardable}
 use Rattle.rule.specs.Pulse.{tile-P, tile-pulse, tile-letter}
+use Rattle.rule.specs.declared.clock.Clock.{Clock}
 use Rattle.settings.specs.declared.Settings.{Settings}
 use Rattle.rule.proofs.Promises.{closed}
 use Rattle.settings.proofs.Laws.Settings.{limits}
@@ -21,7 +22,7 @@ use Rattle.rule.proofs.Laws.Coded.{stamp-silent, stamp-heard, code-stamp, earli
 use Rattle.columns.specs.Columns.{neighbours, link}
 use Rattle.admission.specs.Call.{Call}
 use Rattle.columns.specs.Marks.{marked, mark-bytes}
-use Rattle.pulse.specs.Pulse.{arrives, arrival, read-at, stamp, pulse, letter-at, pulsed-at}
+use Rattle.pulse.specs.Pulse.{arrives, arrival, read-at, clock-of, stamp, pulse, letter-at, pulsed-at}
 use Rattle.pulse.specs.Pulsed.{pulsed}
 use Rattle.pulse.specs.declared.Pulsed.{Pulsed}
 use Rattle.pulse.specs.Stampable.{Stampable, stamped}
@@ -29,15 +30,15 @@ use Rattle.pulse.specs.Plain.{received}
 use Rattle.columns.proofs.Laws.Columns.{own}
 use Rattle.admission.proofs.Laws.Accepted.{Accepted}
 use Rattle.pulse.proofs.Laws.Senders.{Sender}
-use Rattle.pulse.proofs.Laws.Stamps.{stamp-by, few-silent, neighbours-by, tile-of}
+use Rattle.pulse.proofs.Laws.Stamps.{admitted, stamp-by, few-silent, neighbours-by, tile-of}
 
 -- the stamp of what a link brings
-module _ (p : ℕ) (ts ms ls : List ℕ) (k i : ℕ) where
+module _ (p : Clock) (ts ms ls : List ℕ) (k i : ℕ) where
   pub stamped-silent : marked ms k ≡ true → getD ls i 0 ≡ silence → stamped p ts ms ls k i ≡ silence
   unfolding stamped code-of read-at arrives
   stamped-silent e q = rw (e, stamp-silent (getD ls i 0) q)
 
-  pub stamped-faulty : marked ms k ≡ true → (getD ls i 0 ≡ silence → ⊥) → stamped p ts ms ls k i ≡ reads p 0 (getD ls i 0)
+  pub stamped-faulty : marked ms k ≡ true → (getD ls i 0 ≡ silence → ⊥) → stamped p ts ms ls k i ≡ reads (p .drift) (p .phase) (getD ls i 0)
   unfolding stamped code-of read-at arrives
   stamped-faulty e n = rw (e, stamp-heard (getD ls i 0) n)
 
@@ -48,7 +49,7 @@ module _ (p : ℕ) (ts ms ls : List ℕ) (k i : ℕ) where
 -- what the rule takes, and the pulse and its letter, by the codes of own and of the earliest and latest neighbour
 pub record Pulsing (s : Settings) (ts : List ℕ) (x : Call) (c o l m : ℕ) : Type 0 where
   pub ready : Forwardable (s .unit) (step-of s) o l m
-  pub pulses : pulsed-at s ts x c ≡ pulsed s (step-of s) (getD (x .drifts) c 0) o l m
+  pub pulses : pulsed-at s ts x c ≡ pulsed s (step-of s) (clock-of (x .drifts) (x .phases) c) o l m
 
 ordered : (xs : List Stamp) → 2 ≤ length xs → earliest xs ≼ latest xs
 ordered [] i = let never : ⊥ = omega arith in absurd never
@@ -56,14 +57,14 @@ ordered (x ∷ xs) i = earliest-≼-latest x xs
 
 -- a tile of an accepted row
 module _ {s : Settings} {ts : List ℕ} {x : Call} (r : Accepted s ts x) (c : ℕ) (i : c < s .width) where
-  pub stampable : {k p : ℕ} → Sender (s .width) c k p → Stampable (getD (x .drifts) c 0) ts (x .marks) (x .links) k p
+  pub stampable : {k p : ℕ} → Sender (s .width) c k p → Stampable (clock-of (x .drifts) (x .phases) c) ts (x .marks) (x .links) k p
   unfolding link mark-bytes
   stampable {k} {p} e =
       let w = s .width in
       let l = limits s (r .settings) in
-      subst (λ (q : ℕ). Stampable (getD (x .drifts) c 0) ts (x .marks) (x .links) k q) (e .at)
+      subst (λ (q : ℕ). Stampable (clock-of (x .drifts) (x .phases) c) ts (x .marks) (x .links) k q) (e .at)
       record {
-        slow = omega (arith, r .slow c i, l .drift);
+        clock-ok = admitted r c i;
         in-row = omega (arith, e .in-row, r .lengths .before);
         in-marks = omega (arith, e .in-row, r .lengths .marks);
         in-links = omega (arith, e .in-links, e .at, r .lengths .links);
@@ -73,9 +74,9 @@ module _ {s : Settings} {ts : List ℕ} {x : Call} (r : Accepted s ts x) (c : �
 
   -- the stamp as the code has it
   pub code : {k p : ℕ} → Sender (s .width) c k p →
-      stamped (getD (x .drifts) c 0) ts (x .marks) (x .links) k p ≡ code-of (stamp (s .width) ts x c k)
+      stamped (clock-of (x .drifts) (x .phases) c) ts (x .marks) (x .links) k p ≡ code-of (stamp (s .width) ts x c k)
   unfolding stamped stamp arrival link
-  code {k} {p} e = ap (stamped (getD (x .drifts) c 0) ts (x .marks) (x .links) k) (sym (e .at))
+  code {k} {p} e = ap (stamped (clock-of (x .drifts) (x .phases) c) ts (x .marks) (x .links) k) (sym (e .at))
 
   abbrev heard-at : ℕ → Stamp
   heard-at k = stamp (s .width) ts x c k
@@ -110,7 +111,7 @@ module _ {s : Settings} {ts : List ℕ} {x : Call} (r : Accepted s ts x) (c : �
       rw (closed (heard-at c) t)
       (P-most (k .unit .0) (step-of s) (enough (heard-at c) beside-it (t .two) (few-silent r c i)) (ordered beside-it (t .two))
       (stamp-by r c i c i (own (s .width) c c refl)) (earliest-by all-by) (latest-by all-by)) in
-      omega (arith, pulse-latest (getD (x .drifts) c 0) 0 0 v v (omega (arith, k .hold)) (omega arith), small, k .hold, k .unit)
+      omega (arith, pulse-latest (getD (x .drifts) c 0) (getD (x .phases) c 0) 0 v v (omega (arith, k .hold, r .in-phase c i)) (omega arith), small, k .hold, k .unit)
 
   -- with two neighbours and with three
   pub pulse-two : {a b o p q : ℕ} → neighbours (s .width) c ≡ a ∷ b ∷ [] →
@@ -135,5 +136,5 @@ module _ {s : Settings} {ts : List ℕ} {x : Call} {c o l m : ℕ} (g : Pulsing 
   pub ready-at : Forwardable (s .unit) j o l m
   ready-at = rw e (g .ready)
 
-  pub pulses-at : {v : Pulsed} → v ≡ pulsed s j (getD (x .drifts) c 0) o l m → v ≡ pulsed-at s ts x c
+  pub pulses-at : {v : Pulsed} → v ≡ pulsed s j (clock-of (x .drifts) (x .phases) c) o l m → v ≡ pulsed-at s ts x c
   pulses-at h = h ∙ rw e (sym (g .pulses))

@@ -9,9 +9,10 @@ use lib.ListN.{length, getD}
 use native.Mathlib.Nat.{mul-le-mul-left}
 use native.Mathlib.Omega.{arith}
 use borrow.Author.Tests.{eq-eqb, ne-eqb}
-use Rattle.rule.specs.Clock.{reads}
+use Rattle.rule.specs.Clock.{Admitted, reads}
 use Rattle.rule.specs.Stamp.{Stamp, heard, silent, silence, All, unheard-of, unheard-in, latest-stamp}
 use Rattle.settings.specs.declared.Settings.{Settings}
+use Rattle.rule.specs.declared.clock.Clock.{Clock}
 use Rattle.rule.specs.Promises.{Tile}
 use Rattle.settings.proofs.Laws.Cases.{by-equal}
 use Rattle.settings.proofs.Laws.Settings.{limits}
@@ -22,7 +23,7 @@ use Rattle.admission.specs.Call.{Call}
 use Rattle.links.specs.Links.{latest-time}
 use Rattle.columns.specs.Window.{four-senders}
 use Rattle.columns.specs.Marks.{marked, faulty-among}
-use Rattle.pulse.specs.Pulse.{arrives, arrival, read-at, stamp}
+use Rattle.pulse.specs.Pulse.{arrives, arrival, read-at, clock-of, stamp}
 use Rattle.columns.proofs.Laws.Columns.{beside, strangers}
 use Rattle.columns.proofs.Laws.Lists.{by-test, columns-all}
 use Rattle.admission.proofs.Laws.Accepted.{Accepted}
@@ -34,9 +35,9 @@ abbrev pub one : (marks : List ℕ) → ℕ → ℕ
 one ms k = cond (marked ms k) 1 0
 
 -- a reading of an arrival of an accepted row
-reads-small : (p a : ℕ) → p ≤ 10000 → a ≤ latest-time + 1000000 → reads p 0 a ≤ latest-stamp
+reads-small : (k : Clock) (a : ℕ) → Admitted k → a ≤ latest-time + 1000000 → reads (k .drift) (k .phase) a ≤ latest-stamp
 unfolding reads
-reads-small p a i j = omega (arith, mul-le-mul-left a i)
+reads-small k a i j = omega (arith, i .in-phase, mul-le-mul-left a (i .slow))
 
 -- the faulty among columns, one by one
 pub faulty-step : (ms : List ℕ) (f : ℕ → Bool) (n a : ℕ) →
@@ -79,12 +80,12 @@ unheard-most silent = omega arith
 
 -- a tile of an accepted row
 module _ {s : Settings} {ts : List ℕ} {x : Call} (r : Accepted s ts x) (c : ℕ) (i : c < s .width) where
-  drift-small : getD (x .drifts) c 0 ≤ 10000
-  drift-small = omega (arith, r .slow c i, limits s (r .settings) .drift)
+  pub admitted : Admitted (clock-of (x .drifts) (x .phases) c)
+  admitted = record { slow = omega (arith, r .slow c i, limits s (r .settings) .drift); in-phase = r .in-phase c i }
 
   -- a correct sender is heard
   pub correct-heard : (k : ℕ) → marked (x .marks) k ≡ false →
-      stamp (s .width) ts x c k ≡ heard (reads (getD (x .drifts) c 0) 0 (getD ts k 0 + link (s .width) (x .links) c k))
+      stamp (s .width) ts x c k ≡ heard (reads (getD (x .drifts) c 0) (getD (x .phases) c 0) (getD ts k 0 + link (s .width) (x .links) c k))
   unfolding stamp arrival arrives read-at
   correct-heard k m = rw m
 
@@ -94,7 +95,7 @@ module _ {s : Settings} {ts : List ℕ} {x : Call} (r : Accepted s ts x) (c : �
   faulty-silent k m e = rw (m, stamp-silent (link (s .width) (x .links) c k) e)
 
   pub faulty-heard : (k : ℕ) → marked (x .marks) k ≡ true → (link (s .width) (x .links) c k ≡ silence → ⊥) →
-      stamp (s .width) ts x c k ≡ heard (reads (getD (x .drifts) c 0) 0 (link (s .width) (x .links) c k))
+      stamp (s .width) ts x c k ≡ heard (reads (getD (x .drifts) c 0) (getD (x .phases) c 0) (link (s .width) (x .links) c k))
   unfolding stamp arrival arrives read-at
   faulty-heard k m n = rw (m, stamp-heard (link (s .width) (x .links) c k) n)
 
@@ -103,9 +104,9 @@ module _ {s : Settings} {ts : List ℕ} {x : Call} (r : Accepted s ts x) (c : �
       by-test (marked (x .marks) k)
       (λ m. by-equal (link (s .width) (x .links) c k) silence
       (λ e. rw (faulty-silent k m e) unheard)
-      (λ n. rw (faulty-heard k m n) (heard-by (reads-small (getD (x .drifts) c 0) (link (s .width) (x .links) c k) drift-small (omega (arith, r .arrival c k i j p m n))))))
+      (λ n. rw (faulty-heard k m n) (heard-by (reads-small (clock-of (x .drifts) (x .phases) c) (link (s .width) (x .links) c k) admitted (omega (arith, r .arrival c k i j p m n))))))
       (λ m. rw (correct-heard k m)
-      (heard-by (reads-small (getD (x .drifts) c 0) (getD ts k 0 + link (s .width) (x .links) c k) drift-small
+      (heard-by (reads-small (clock-of (x .drifts) (x .phases) c) (getD ts k 0 + link (s .width) (x .links) c k) admitted
       (omega (arith, r .time k j m, r .delay c k i j p m, limits s (r .settings) .delay)))))
 
   -- at most one is silent

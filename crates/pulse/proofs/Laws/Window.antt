@@ -3,7 +3,6 @@ use mathlib.Core.Path.{_≡_, refl, _∙_, ap}
 use mathlib.Core.Bool.{true, false, cond}
 use mathlib.Core.List.{List, [], _∷_}
 use Prim.Native.Nat.{ℕ, _+_, _-_, _≤_, _<_, min, max}
-use lib.ListN.{getD}
 use native.Mathlib.Omega.{arith}
 use Rattle.settings.specs.Settings.{step-of}
 use Rattle.settings.specs.declared.Settings.{Settings}
@@ -14,7 +13,7 @@ use Rattle.columns.specs.Columns.{neighbours, links-before}
 use Rattle.columns.specs.Window.{first-sender, four-senders}
 use Rattle.admission.specs.Call.{Call}
 use Rattle.admission.proofs.Laws.Accepted.{Accepted}
-use Rattle.pulse.specs.Pulse.{stamp, pulsed-at}
+use Rattle.pulse.specs.Pulse.{clock-of, stamp, pulsed-at}
 use Rattle.pulse.specs.Pulsed.{pulsed}
 use Rattle.pulse.specs.declared.Pulsed.{Pulsed}
 use Rattle.pulse.specs.Stampable.{Stampable, stamped}
@@ -43,7 +42,7 @@ module _ {s : Settings} {ts : List ℕ} {x : Call} {c k p : ℕ} (t : Found s ts
 
   -- its link may be read
   abbrev Readable : ℕ → Type 0
-  Readable n = Stampable (getD (x .drifts) c 0) ts (x .marks) (x .links) (k + n) (p + n)
+  Readable n = Stampable (clock-of (x .drifts) (x .phases) c) ts (x .marks) (x .links) (k + n) (p + n)
 
   pub readable : (n : ℕ) → n < 3 → Readable n
   readable n i = stampable (t .row) c (t .here) (at-place n i)
@@ -53,7 +52,7 @@ module _ {s : Settings} {ts : List ℕ} {x : Call} {c k p : ℕ} (t : Found s ts
 
   -- and what is read there is its stamp
   abbrev read : ℕ → ℕ
-  read n = stamped (getD (x .drifts) c 0) ts (x .marks) (x .links) (k + n) (p + n)
+  read n = stamped (clock-of (x .drifts) (x .phases) c) ts (x .marks) (x .links) (k + n) (p + n)
 
   abbrev heard : ℕ → ℕ
   heard j = code-of (stamp (s .width) ts x c j)
@@ -62,7 +61,7 @@ module _ {s : Settings} {ts : List ℕ} {x : Call} {c k p : ℕ} (t : Found s ts
   is-heard n i e = e ∙ code (t .row) c (t .here) (at-place n i)
 
   abbrev fixed : (j own l m : ℕ) → Pulsed
-  fixed j own l m = pulsed s j (getD (x .drifts) c 0) own l m
+  fixed j own l m = pulsed s j (clock-of (x .drifts) (x .phases) c) own l m
 
   -- own's place
   pub own-after : k ≤ c

@@ -34,7 +34,7 @@ received-requires-3 c κs = c .before .before .before .before .pre .right
 of-two-requires : tie.Need-of-two-requires
 of-two-requires c κs =
     let p = c .before .before .before .before .before .pre in
-    (rw (c .before .before .received .ensures, c .before .received2 .ensures, c .received3 .ensures) (p .ready), (p .own .slow, p .held))
+    (rw (c .before .before .received .ensures, c .before .received2 .ensures, c .received3 .ensures) (p .ready), (p .own .clock-ok, p .held .0, p .held .1))
 
 returns : tie.Need-returns
 unfolding correct-pulse

@@ -37,32 +37,32 @@ returns : tie.Need-returns
 returns c =
     let t = c .before .before in
     let a = start (t .before) .args in
-    sym (stamped-silent (a .drift) (a .before .now) (a .marks .now) (a .links .now) (a .first + a .place) (a .at + a .place) (is-faulty t) (c .if2 .taken))
+    sym (stamped-silent (a .clock) (a .before .now) (a .marks .now) (a .links .now) (a .first + a .place) (a .at + a .place) (is-faulty t) (c .if2 .taken))
 
 reading-requires : tie.Need-reading-requires
 reading-requires c κs =
     let t = c .before .before in
     let p = start (t .before) .pre in
-    omega (arith, p .slow, p .faulty (is-faulty t) (c .if2 .left))
+    omega (arith, p .clock-ok, p .faulty (is-faulty t) (c .if2 .left))
 
 returns-2 : tie.Need-returns-2
 returns-2 c =
     let t = c .before .before .before in
     let a = start (t .before) .args in
     c .reading .ensures
-    ∙ sym (stamped-faulty (a .drift) (a .before .now) (a .marks .now) (a .links .now) (a .first + a .place) (a .at + a .place) (is-faulty t) (c .before .if2 .left))
+    ∙ sym (stamped-faulty (a .clock) (a .before .now) (a .marks .now) (a .links .now) (a .first + a .place) (a .at + a .place) (is-faulty t) (c .before .if2 .left))
 
 received-requires : tie.Need-received-requires
 received-requires c κs =
     let p = start (c .before) .pre in
     let d = p .delay (is-correct c) in
-    record { slow = p .slow; in-row = p .in-row; in-links = p .in-links; time = d .0; delay = d .1 }
+    record { clock-ok = p .clock-ok; in-row = p .in-row; in-links = p .in-links; time = d .0; delay = d .1 }
 
 returns-3 : tie.Need-returns-3
 returns-3 c =
     let t = c .before in
     let a = start (t .before) .args in
-    rw (stamped-correct (a .drift) (a .before .now) (a .marks .now) (a .links .now) (a .first + a .place) (a .at + a .place) (is-correct t)) (c .received .ensures)
+    rw (stamped-correct (a .clock) (a .before .now) (a .marks .now) (a .links .now) (a .first + a .place) (a .at + a .place) (is-correct t)) (c .received .ensures)
 
 pub stamp-spec : {M : Type 1} → statement M
 stamp-spec =

@@ -27,21 +27,21 @@ refused s ts x n held letters e m =
     (rw e (sym (planned-refused s ts x not)), (sym (written-refused s ts x held not), sym (lettered-refused s ts x letters not)))
 
 abbrev Inv-loop : tie.InvT-loop
-Inv-loop settings before marks drifts links times₀ letters₀ number step done₀ times letters done =
-    So-far settings before (call marks drifts links (settings .width) (settings .width)) (pulses times₀ letters₀) (pulses times letters) done
+Inv-loop settings before marks drifts phases links times₀ letters₀ number step done₀ times letters done =
+    So-far settings before (call marks drifts phases links (settings .width) (settings .width)) (pulses times₀ letters₀) (pulses times letters) done
 
 abbrev μ-loop : tie.MeasureT-loop
-μ-loop settings before marks drifts links times₀ letters₀ number step done₀ times letters done = length times₀ - done .next
+μ-loop settings before marks drifts phases links times₀ letters₀ number step done₀ times letters done = length times₀ - done .next
 
 -- the start of the function, from the loop's head, and what was lent
 abbrev first : tie.After-refusal Inv-loop μ-loop → tie.Start Inv-loop μ-loop
-first c = c .before .before .before .before .before .before .before
+first c = c .before .before .before .before .before .before .before .before
 
 abbrev start : tie.At-loop Inv-loop μ-loop → tie.Start Inv-loop μ-loop
 start c = first (c .before .before .before .before)
 
 abbrev lent : tie.Start Inv-loop μ-loop → Call
-lent s = call (s .args .marks .now) (s .args .drifts .now) (s .args .links .now) (length (s .args .times .now)) (length (s .args .letters .now))
+lent s = call (s .args .marks .now) (s .args .drifts .now) (s .args .phases .now) (s .args .links .now) (length (s .args .times .now)) (length (s .args .letters .now))
 
 -- a row that is not turned away
 passed : (c : tie.Else1 Inv-loop μ-loop) → let s = first (c .before) in row-refusal (s .args .settings) (s .args .before .now) (lent s) ≡ 0
@@ -60,7 +60,7 @@ letter-room c = ok c .lengths .letters
 
 -- the same by the settings' width
 abbrev sized : tie.Start Inv-loop μ-loop → Call
-sized s = call (s .args .marks .now) (s .args .drifts .now) (s .args .links .now) (s .args .settings .width) (s .args .settings .width)
+sized s = call (s .args .marks .now) (s .args .drifts .now) (s .args .phases .now) (s .args .links .now) (s .args .settings .width) (s .args .settings .width)
 
 same-call : (c : tie.Else1 Inv-loop μ-loop) → let s = first (c .before) in lent s ≡ sized s
 same-call c = rw (room c, letter-room c)

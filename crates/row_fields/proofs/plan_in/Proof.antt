@@ -17,7 +17,7 @@ use Rattle.row_fields.proofs.plan_in.Tie as tie
 
 -- the start of the function, from the number of the tiles' field
 abbrev start : tie.After-refusal → tie.Start
-start c = c .before .before .before .before .before .before .before .before
+start c = c .before .before .before .before .before .before .before .before .before
 
 -- the rows that are lent
 abbrev held : tie.Start → Pulses
@@ -47,10 +47,10 @@ add-rest : tie.Need-add-rest
 add-rest c = search needs
 
 sub-rest : tie.Need-sub-rest
-sub-rest c = room (c .before .before .before .before .before .before)
+sub-rest c = room (c .before .before .before .before .before .before .before)
 
 part-rest-start : tie.Need-part-rest-start
-part-rest-start c = let h = room (c .before .before .before .before .before .before) in search needs
+part-rest-start c = let h = room (c .before .before .before .before .before .before .before) in search needs
 
 part-rest-end : tie.Need-part-rest-end
 part-rest-end c = search needs
@@ -69,13 +69,13 @@ body-requires c κs = search needs
 
 tiles-requires : tie.Need-tiles-requires
 tiles-requires c κs =
-    let b = c .before .before in
+    let b = c .before .before .before in
     let s = start (b .before .before) in
     let a = s .args in
     let w = narrow s in
     let n = length (a .before .now) in (
-      (w .0, w .1, rw (b .body .ensures) (body-length 4 (26 * n + 16) _ (sym (b .before .before .refusal .ensures) ∙ b .before .if1 .left))),
-      (s .pre .1 .0 ∙ sym (s .pre .0 .before-long), rw (s .pre .0 .before-long) (s .pre .1 .1)),
+      (w .0, w .1, rw (b .body .ensures) (body-length 4 (30 * n + 16) _ (sym (b .before .before .refusal .ensures) ∙ b .before .if1 .left))),
+      (s .pre .1 .0 ∙ sym (s .pre .0 .before-long), s .pre .1 .1 ∙ sym (s .pre .0 .before-long), rw (s .pre .0 .before-long) (s .pre .1 .2)),
     )
 
 body-requires-2 : tie.Need-body-requires-2
@@ -102,29 +102,32 @@ same-length-3 c = search needs
 same-length-4 : tie.Need-same-length-4
 same-length-4 c = search needs
 
+same-length-5 : tie.Need-same-length-5
+same-length-5 c = search needs
+
 -- the row operation was given the call that the fields describe
 abbrev tiles-there : tie.After-plan → tie.Else1
-tiles-there p = p .before .before .before .before .before .before .before .before .before .before .before .before .before .before
+tiles-there p = p .before .before .before .before .before .before .before .before .before .before .before .before .before .before .before .before .before .before
 
 same-call : (p : tie.After-plan) →
     let s = start (tiles-there p .before) in
-    let b2 = p .before .before .before .before .before in
-    call (b2 .body2 .result .now) (b2 .before .before .before .before .before .tiles .last .1 .1 .0) (b2 .before .before .before .before .before .tiles .last .1 .1 .1 .0) (length (s .args .times .now)) (length (s .args .letters .now))
+    let b2 = p .before .before .before .before .before .before in
+    call (b2 .body2 .result .now) (b2 .before .before .before .before .before .before .before .tiles .last .1 .1 .0) (b2 .before .before .before .before .before .before .before .tiles .last .1 .1 .1 .0) (b2 .before .before .before .before .before .before .before .tiles .last .1 .1 .1 .1 .0) (length (s .args .times .now)) (length (s .args .letters .now))
     ≡ call-in (s .args .settings .width) (s .args .part .now)
 same-call p =
     let e = tiles-there p in
     let s = start (e .before) in
-    let b2 = p .before .before .before .before .before in
-    let t = b2 .before .before .before .before .before in
-    let b = t .before .before .before in
+    let b2 = p .before .before .before .before .before .before in
+    let t = b2 .before .before .before .before .before .before .before in
+    let b = t .before .before .before .before in
     let pl = s .pre .0 in
     call-made (length (s .args .before .now)) (s .args .settings .width) (pl .before-long) (s .args .part .now) (length (s .args .times .now)) (length (s .args .letters .now)) (pl .times-long) (pl .letters-long)
-    (b2 .body2 .ensures) (b .body .ensures) (t .tiles .ensures .0) (t .tiles .ensures .1)
+    (b2 .body2 .ensures) (b .body .ensures) (t .tiles .ensures .0) (t .tiles .ensures .1 .0) (t .tiles .ensures .1 .1)
 
 done : (p : tie.After-plan) →
     let s = start (tiles-there p .before) in
     Worked-out (s .args .settings) (s .args .part .now) (s .args .before .now) (held s) (number-of (p .plan .result))
-    (pulses (p .plan .last .1 .1 .1 .1 .1 .0) (p .plan .last .1 .1 .1 .1 .1 .1 .0))
+    (pulses (p .plan .last .1 .1 .1 .1 .1 .1 .0) (p .plan .last .1 .1 .1 .1 .1 .1 .1 .0))
 done p =
     let e = tiles-there p in
     let s = start (e .before) in
@@ -141,9 +144,6 @@ returns-2 c =
     let z : number-of (p .plan .result) ≡ 0 = unfold number-of in ap number-of (c .enum-told .given .1) in
     rw z at (done p)
 
-same-length-5 : tie.Need-same-length-5
-same-length-5 c = search needs
-
 same-length-6 : tie.Need-same-length-6
 same-length-6 c = search needs
 
@@ -152,6 +152,12 @@ same-length-7 c = search needs
 
 same-length-8 : tie.Need-same-length-8
 same-length-8 c = search needs
+
+same-length-9 : tie.Need-same-length-9
+same-length-9 c = search needs
+
+same-length-10 : tie.Need-same-length-10
+same-length-10 c = search needs
 
 returns-3 : tie.Need-returns-3
 returns-3 c =
@@ -183,9 +189,11 @@ plan-in-spec =
     same-length-2
     same-length-3
     same-length-4
-    returns-2
     same-length-5
+    returns-2
     same-length-6
     same-length-7
     same-length-8
+    same-length-9
+    same-length-10
     returns-3)

@@ -76,15 +76,16 @@ pulse-most {s} {ts} {x} r T c early i =
     let free = free-one r c i in
     let w = limits s (r .settings) in
     let p = getD (x .drifts) c 0 in
+    let q = getD (x .phases) c 0 in
     let st = stamp (s .width) ts x c in
-    let E = envelope s 0 (reads p 0 (T + s .delay)) (st c) (map st (neighbours (s .width) c)) (tile-of r c i st)
-    (one-free (w .width .0) i (free .k) (free .in-row) (free .heard) 0 (reads p 0 (T + s .delay)) st
+    let E = envelope s 0 (reads p q (T + s .delay)) (st c) (map st (neighbours (s .width) c)) (tile-of r c i st)
+    (one-free (w .width .0) i (free .k) (free .in-row) (free .heard) 0 (reads p q (T + s .delay)) st
     (λ j m t n. let ok = free .correct j m t n in
     rw (correct-heard r c i j ok)
     (within zero-le
-    (reads-mono p 0 {a = getD ts j 0 + link (s .width) (x .links) c j} {b = T + s .delay} (omega (arith, early j m ok, r .delay c j i m t ok)))))) in
+    (reads-mono p q {a = getD ts j 0 + link (s .width) (x .links) c j} {b = T + s .delay} (omega (arith, early j m ok, r .delay c j i m t ok)))))) in
     omega (
       arith,
-      pulse-latest p 0 (T + s .delay) (s .hold + 3 * s .unit) (tile-P s (st c) (map st (neighbours (s .width) c)) + s .hold)
-          (omega (arith, w .hold)) (omega (arith, E .1)),
+      pulse-latest p q (T + s .delay) (s .hold + 3 * s .unit) (tile-P s (st c) (map st (neighbours (s .width) c)) + s .hold)
+          (omega (arith, w .hold, r .in-phase c i)) (omega (arith, E .1)),
     )

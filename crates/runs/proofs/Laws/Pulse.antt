@@ -7,7 +7,7 @@ use Prim.Native.Nat.{ℕ, _+_, _-_, _*_, _≤_, _<_}
 use lib.ListN.{getD}
 use native.Mathlib.Omega.{arith}
 use borrow.Author.Tests.{ne-eqb}
-use Rattle.rule.specs.Clock.{reads, first-tick}
+use Rattle.rule.specs.Clock.{phase-most, reads, first-tick}
 use Rattle.rule.specs.Stamp.{Stamp, heard, silent, _≼_, in-order, last, _≼*_, after, From-to, within, unheard-of, unheard-in}
 use Rattle.rule.specs.Pulse.{tile-P, tile-pulse}
 use Rattle.rule.specs.Promises.{P-monotone, P-shifts, One-free, own-free, neighbour-free, Envelope}
@@ -29,13 +29,25 @@ use Rattle.pulse.proofs.Laws.Stamps.{correct-heard, few-silent, tile-of}
 abbrev pub Predecessors : (w c : ℕ) → (ℕ → Type 0) → Type 0
 Predecessors w c Q = (k : ℕ) → k < w → is-predecessor w c k ≡ true → Q k
 
--- the same stamps and drift give the same pulse
-pub pulse-same : (s : Settings) (ts ts′ : List ℕ) (x y : Call) (c : ℕ) → c < s .width → getD (x .drifts) c 0 ≡ getD (y .drifts) c 0 →
+-- tile c has the same clock in both calls
+pub record Same-clock (x y : Call) (c : ℕ) : Type 0 where
+  pub drift : getD (x .drifts) c 0 ≡ getD (y .drifts) c 0
+  pub phase : getD (x .phases) c 0 ≡ getD (y .phases) c 0
+
+pub same-clock : {x y : Call} → x .drifts ≡ y .drifts → x .phases ≡ y .phases → (c : ℕ) → Same-clock x y c
+same-clock d q c = record { drift = ap (λ (ds : List ℕ). getD ds c 0) d; phase = ap (λ (qs : List ℕ). getD qs c 0) q }
+
+pub other-way : {x y : Call} {c : ℕ} → Same-clock x y c → Same-clock y x c
+other-way d = record { drift = sym (d .drift); phase = sym (d .phase) }
+
+-- the same stamps and clock give the same pulse
+pub pulse-same : (s : Settings) (ts ts′ : List ℕ) (x y : Call) (c : ℕ) → c < s .width → Same-clock x y c →
     Predecessors (s .width) c (λ k. stamp (s .width) ts x c k ≡ stamp (s .width) ts′ y c k) → pulse s ts x c ≡ pulse s ts′ y c
 unfolding pulse neighbours
 pulse-same s ts ts′ x y c i d e =
     rw (
-      d,
+      d .drift,
+      d .phase,
       e c i (own (s .width) c c refl),
       columns-same (are-neighbours (s .width) c) (stamp (s .width) ts x c) (stamp (s .width) ts′ y c) (s .width) 0
           (λ k j l t. e k (omega arith) (beside (s .width) c k t)),
@@ -65,7 +77,7 @@ others-of s ts x c = map (stamp (s .width) ts x c) (neighbours (s .width) c)
 
 -- stamps that come at most `moves p n` later give a pulse at most n + 1 later, and none earlier gives no earlier pulse
 module _ {s : Settings} {ts ts′ : List ℕ} {x y : Call} (r : Accepted s ts x) (r′ : Accepted s ts′ y) (c : ℕ) (i : c < s .width)
-    (d : getD (x .drifts) c 0 ≡ getD (y .drifts) c 0) where
+    (d : Same-clock x y c) where
   P-later : (n : ℕ) → Predecessors (s .width) c (λ k. stamp (s .width) ts′ y c k ≼ after n (stamp (s .width) ts x c k)) →
       tile-P s (own-of s ts′ y c) (others-of s ts′ y c) ≤ tile-P s (own-of s ts x c) (others-of s ts x c) + n
   unfolding P-monotone P-shifts
@@ -89,14 +101,14 @@ module _ {s : Settings} {ts ts′ : List ℕ} {x y : Call} (r : Accepted s ts x)
   pulse-later n e =
       let p = getD (x .drifts) c 0 in
       let k = limits s (r .settings) .hold .0 in
-      rw (← d)
-      (first-step p 0 n (tile-P s (own-of s ts x c) (others-of s ts x c) + s .hold) (omega arith) (omega (arith, P-later (moves p n) e)))
+      rw (← d .drift, ← d .phase)
+      (first-step p (getD (x .phases) c 0) n (tile-P s (own-of s ts x c) (others-of s ts x c) + s .hold) (omega (arith, r .in-phase c i)) (omega (arith, P-later (moves p n) e)))
 
   pub pulse-not-earlier : Predecessors (s .width) c (λ k. stamp (s .width) ts′ y c k ≼ stamp (s .width) ts x c k) → pulse s ts′ y c ≤ pulse s ts x c
   unfolding pulse tile-pulse
   pulse-not-earlier e =
-      rw (← d)
-      (first-mono (getD (x .drifts) c 0) 0
+      rw (← d .drift, ← d .phase)
+      (first-mono (getD (x .drifts) c 0) (getD (x .phases) c 0)
       (omega (arith, P-later 0 (λ k j t. at-once (stamp (s .width) ts x c k) (e k j t)))))
     where
       at-once : (z : Stamp) {v : Stamp} → v ≼ z → v ≼ after 0 z
@@ -115,23 +127,23 @@ after-later n (heard a) = in-order {a = a} {b = a + n} (omega arith)
 after-later n silent = last
 
 -- what is faulty alike arrives alike, whatever the times
-faulty-alike : (s : Settings) (ts ts′ : List ℕ) (x y : Call) (c k : ℕ) → getD (x .drifts) c 0 ≡ getD (y .drifts) c 0 →
+faulty-alike : (s : Settings) (ts ts′ : List ℕ) (x y : Call) (c k : ℕ) → Same-clock x y c →
     marked (x .marks) k ≡ true → marked (y .marks) k ≡ true → link (s .width) (x .links) c k ≡ link (s .width) (y .links) c k →
     stamp (s .width) ts x c k ≡ stamp (s .width) ts′ y c k
 unfolding stamp arrival arrives
-faulty-alike s ts ts′ x y c k d m m′ e = rw (d, m, m′, e)
+faulty-alike s ts ts′ x y c k d m m′ e = rw (d .drift, d .phase, m, m′, e)
 
 module _ {s : Settings} {ts ts′ : List ℕ} {x y : Call} (r : Accepted s ts x) (r′ : Accepted s ts′ y) (c : ℕ) (i : c < s .width)
-    (d : getD (x .drifts) c 0 ≡ getD (y .drifts) c 0) (n : ℕ) where
+    (d : Same-clock x y c) (n : ℕ) where
   stamp-later : (k : ℕ) → Like s ts ts′ x y c n k →
       stamp (s .width) ts′ y c k ≼ after (moves (getD (x .drifts) c 0) n) (stamp (s .width) ts x c k)
   stamp-later k e =
       by-test (marked (x .marks) k)
       (λ m. rw (← faulty-alike s ts ts′ x y c k d m (sym (e .mark) ∙ m) (e .value)) (after-later (moves (getD (x .drifts) c 0) n) (stamp (s .width) ts x c k)))
-      (λ m. rw (correct-heard r c i k m, correct-heard r′ c i k (sym (e .mark) ∙ m), ← d, ← e .value)
+      (λ m. rw (correct-heard r c i k m, correct-heard r′ c i k (sym (e .mark) ∙ m), ← d .drift, ← d .phase, ← e .value)
       (unfold after in
       in-order
-      (reads-step (getD (x .drifts) c 0) 0 n (getD ts k 0 + link (s .width) (x .links) c k) {b = getD ts′ k 0 + link (s .width) (x .links) c k} (omega (arith, e .time m)))))
+      (reads-step (getD (x .drifts) c 0) (getD (x .phases) c 0) n (getD ts k 0 + link (s .width) (x .links) c k) {b = getD ts′ k 0 + link (s .width) (x .links) c k} (omega (arith, e .time m)))))
 
   -- times at most n later, all else alike, give a pulse at most n + 1 later
   pub pulse-step : Predecessors (s .width) c (Like s ts ts′ x y c n) → pulse s ts′ y c ≤ pulse s ts x c + n + 1
@@ -156,15 +168,15 @@ one-free {w} {c} wide i k l p lo hi g e =
     other q = rw (ne-eqb k c q) at p
 
 -- P and Q of two tiles with one clock, each within 3h of a range of arrivals from a to b: their pulses
-envelope-step : (s : Settings) → Limits s → (p a b P Q B e : ℕ) → b ≤ a + (2 * B + s .uncertainty + e) → Q ≤ reads p 0 b + 3 * s .unit →
-    reads p 0 a ≤ P + 3 * s .unit → first-tick p 0 (Q + s .hold) ≤ first-tick p 0 (P + s .hold) + (e + 2 * B + 8 * s .unit)
-envelope-step s k p a b P Q B e i u v =
+envelope-step : (s : Settings) → Limits s → (p q a b P Q B e : ℕ) → q ≤ phase-most → b ≤ a + (2 * B + s .uncertainty + e) → Q ≤ reads p q b + 3 * s .unit →
+    reads p q a ≤ P + 3 * s .unit → first-tick p q (Q + s .hold) ≤ first-tick p q (P + s .hold) + (e + 2 * B + 8 * s .unit)
+envelope-step s k p q a b P Q B e in-phase i u v =
     let n = 2 * B + s .uncertainty + e in
     omega (
       arith,
       k .cost,
-      first-step p 0 (n + 6 * s .unit) (P + s .hold) {w = Q + s .hold} (omega (arith, k .hold))
-          (omega (arith, reads-step p 0 n a i, moves-add p 0 n (6 * s .unit))),
+      first-step p q (n + 6 * s .unit) (P + s .hold) {w = Q + s .hold} (omega (arith, k .hold))
+          (omega (arith, reads-step p q n a i, moves-add p q n (6 * s .unit))),
     )
 
 -- a sender that is correct in both calls, its times at most e apart and at most B from those of tile c's column
@@ -180,7 +192,7 @@ pub record Near (s : Settings) (ts ts′ : List ℕ) (x y : Call) (c B e j : ℕ
 -- a tile all of whose predecessors but k are correct in both calls, their times at most e apart and at most B from its own
 -- column's: its pulses are at most e + 2B + 8h apart, whatever k does in either
 module _ {s : Settings} {ts ts′ : List ℕ} {x y : Call} (r : Accepted s ts x) (r′ : Accepted s ts′ y) (c : ℕ) (i : c < s .width)
-    (d : getD (x .drifts) c 0 ≡ getD (y .drifts) c 0) (k : ℕ) (l : k < s .width) (p : is-predecessor (s .width) c k ≡ true) (B e : ℕ) where
+    (d : Same-clock x y c) (k : ℕ) (l : k < s .width) (p : is-predecessor (s .width) c k ≡ true) (B e : ℕ) where
   -- the correct arrivals lie from `low` to 2B + u after it in the first call, and e more on either side in the second
   low : ℕ
   low = getD ts c 0 + (s .delay - s .uncertainty) - B
@@ -189,7 +201,7 @@ module _ {s : Settings} {ts ts′ : List ℕ} {x y : Call} (r : Accepted s ts x)
   high = low + (2 * B + s .uncertainty)
 
   clock : ℕ → ℕ
-  clock t = reads (getD (x .drifts) c 0) 0 t
+  clock t = reads (getD (x .drifts) c 0) (getD (x .phases) c 0) t
 
   first-within : (j : ℕ) → j < s .width → is-predecessor (s .width) c j ≡ true → Near s ts ts′ x y c B e j → From-to (clock low) (clock high) (stamp (s .width) ts x c j)
   unfolding clock low
@@ -199,8 +211,8 @@ module _ {s : Settings} {ts ts′ : List ℕ} {x y : Call} (r : Accepted s ts x)
       let a = link (s .width) (x .links) c j in
       rw (correct-heard r c i j (n .correct))
       (within
-      (reads-mono (getD (x .drifts) c 0) 0 {a = low} {b = getD ts j 0 + a} (omega (arith, n .above, n .below)))
-      (reads-mono (getD (x .drifts) c 0) 0 {a = getD ts j 0 + a} {b = high} (omega (arith, n .above, n .below))))
+      (reads-mono (getD (x .drifts) c 0) (getD (x .phases) c 0) {a = low} {b = getD ts j 0 + a} (omega (arith, n .above, n .below)))
+      (reads-mono (getD (x .drifts) c 0) (getD (x .phases) c 0) {a = getD ts j 0 + a} {b = high} (omega (arith, n .above, n .below))))
 
   second-within : (j : ℕ) → j < s .width → is-predecessor (s .width) c j ≡ true → Near s ts ts′ x y c B e j →
       From-to (clock (low - e)) (clock (high + e)) (stamp (s .width) ts′ y c j)
@@ -209,10 +221,10 @@ module _ {s : Settings} {ts ts′ : List ℕ} {x y : Call} (r : Accepted s ts x)
       let v = r .delay c j i m t (n .correct) in
       let u = limits s (r .settings) .uncertainty in
       let a = link (s .width) (x .links) c j in
-      rw (correct-heard r′ c i j (n .correct′), ← d, ← n .value)
+      rw (correct-heard r′ c i j (n .correct′), ← d .drift, ← d .phase, ← n .value)
       (within
-      (reads-mono (getD (x .drifts) c 0) 0 {a = low - e} {b = getD ts′ j 0 + a} (omega (arith, n .above, n .below, n .earlier)))
-      (reads-mono (getD (x .drifts) c 0) 0 {a = getD ts′ j 0 + a} {b = high + e} (omega (arith, n .above, n .below, n .later))))
+      (reads-mono (getD (x .drifts) c 0) (getD (x .phases) c 0) {a = low - e} {b = getD ts′ j 0 + a} (omega (arith, n .above, n .below, n .earlier)))
+      (reads-mono (getD (x .drifts) c 0) (getD (x .phases) c 0) {a = getD ts′ j 0 + a} {b = high + e} (omega (arith, n .above, n .below, n .later))))
 
   pub pulse-near : Predecessors (s .width) c (λ j. (j ≡ k → ⊥) → Near s ts ts′ x y c B e j) →
       (pulse s ts′ y c ≤ pulse s ts x c + (e + 2 * B + 8 * s .unit)) × (pulse s ts x c ≤ pulse s ts′ y c + (e + 2 * B + 8 * s .unit))
@@ -225,7 +237,7 @@ module _ {s : Settings} {ts ts′ : List ℕ} {x y : Call} (r : Accepted s ts x)
       (one-free (w .width .0) i k l p (clock low) (clock high) (stamp (s .width) ts x c) (λ j m t n. first-within j m t (near j m t n))) in
       let E2 = envelope s (clock (low - e)) (clock (high + e)) (own-of s ts′ y c) (others-of s ts′ y c) (tile-of r′ c i (stamp (s .width) ts′ y c))
       (one-free (w .width .0) i k l p (clock (low - e)) (clock (high + e)) (stamp (s .width) ts′ y c) (λ j m t n. second-within j m t (near j m t n))) in
-      rw (← d) (
-        envelope-step s w (getD (x .drifts) c 0) low (high + e) P Q B e (omega arith) (E2 .1) (E1 .0),
-        envelope-step s w (getD (x .drifts) c 0) (low - e) high Q P B e (omega arith) (E1 .1) (E2 .0),
+      rw (← d .drift, ← d .phase) (
+        envelope-step s w (getD (x .drifts) c 0) (getD (x .phases) c 0) low (high + e) P Q B e (r .in-phase c i) (omega arith) (E2 .1) (E1 .0),
+        envelope-step s w (getD (x .drifts) c 0) (getD (x .phases) c 0) (low - e) high Q P B e (r .in-phase c i) (omega arith) (E1 .1) (E2 .0),
       )

@@ -19,15 +19,15 @@ use Rattle.runs.specs.Reach.{Alike-among, Two-runs, apart, widest, gap-b
 use Rattle.columns.proofs.Laws.Lists.{by-test}
 use Rattle.admission.proofs.Laws.Accepted.{Accepted, accepted}
 use Rattle.pulse.proofs.Laws.Stamps.{one, faulty-step}
-use Rattle.runs.proofs.Laws.Pulse.{Predecessors, pulse-same, pulse-step, Near, pulse-near}
+use Rattle.runs.proofs.Laws.Pulse.{Predecessors, Same-clock, same-clock, other-way, pulse-same, pulse-step, Near, pulse-near}
 use Rattle.runs.proofs.Laws.Run.{Run, written-at}
 
 -- a sender with the same mark, link value and, where it is correct, time has the same stamp
-stamp-same : (s : Settings) (ts ts′ : List ℕ) (x y : Call) (c k : ℕ) → getD (x .drifts) c 0 ≡ getD (y .drifts) c 0 →
+stamp-same : (s : Settings) (ts ts′ : List ℕ) (x y : Call) (c k : ℕ) → Same-clock x y c →
     marked (x .marks) k ≡ marked (y .marks) k → link (s .width) (x .links) c k ≡ link (s .width) (y .links) c k → getD ts k 0 ≡ getD ts′ k 0 →
     stamp (s .width) ts x c k ≡ stamp (s .width) ts′ y c k
 unfolding stamp arrival
-stamp-same s ts ts′ x y c k d m v t = rw (d, m, v, t)
+stamp-same s ts ts′ x y c k d m v t = rw (d .drift, d .phase, m, v, t)
 
 -- two faulty columns are counted
 module _ (ms : List ℕ) (f : ℕ → Bool) where
@@ -114,8 +114,8 @@ module _ {s : Settings} {ts : List ℕ} {xs ys : List Call} {rs qs : List (List 
   second-pulse : (n c : ℕ) → n < length xs → c < w → getD (row-at ts qs (suc n)) c 0 ≡ pulse s (row-at ts qs n) (call-at ys n) c
   second-pulse n c i j = written-at run′ n c (omega (arith, alike .as-many)) j
 
-  same-drift : (n c : ℕ) → n < length xs → getD (call-at xs n .drifts) c 0 ≡ getD (call-at ys n .drifts) c 0
-  same-drift n c i = ap (λ (ds : List ℕ). getD ds c 0) (alike .drifts n i)
+  clock-same : (n c : ℕ) → n < length xs → Same-clock (call-at xs n) (call-at ys n) c
+  clock-same n c i = same-clock (alike .drifts n i) (alike .phases n i) c
 
   -- a tile other than the faulty one has the same mark and link values in both
   same-mark : (n j : ℕ) → n < length xs → j < w → (eqb n f && eqb j k) ≡ false → marked (call-at xs n .marks) j ≡ marked (call-at ys n .marks) j
@@ -133,9 +133,9 @@ module _ {s : Settings} {ts : List ℕ} {xs ys : List Call} {rs qs : List (List 
       getD (row-at ts rs (suc n)) c 0 ≡ getD (row-at ts qs (suc n)) c 0
   same-next n c i j e =
       first-pulse n c i j
-      ∙ pulse-same s (row-at ts rs n) (row-at ts qs n) (call-at xs n) (call-at ys n) c j (same-drift n c i)
+      ∙ pulse-same s (row-at ts rs n) (row-at ts qs n) (call-at xs n) (call-at ys n) c j (clock-same n c i)
       (λ m o p. let (a, t) = e m o p in
-      stamp-same s (row-at ts rs n) (row-at ts qs n) (call-at xs n) (call-at ys n) c m (same-drift n c i) (same-mark n m i o a) (alike .links n c m i j o p a) t)
+      stamp-same s (row-at ts rs n) (row-at ts qs n) (call-at xs n) (call-at ys n) c m (clock-same n c i) (same-mark n m i o a) (alike .links n c m i j o p a) t)
       ∙ sym (second-pulse n c i j)
 
   -- rows up to f
@@ -198,7 +198,7 @@ module _ {s : Settings} {ts : List ℕ} {xs ys : List Call} {rs qs : List (List 
       let i = two .row in
       by-test (is-predecessor w c k)
       (λ q. rw (first-pulse f c i o, second-pulse f c i o)
-      (omega (arith, pulse-near (first-accepted f i) (second-accepted f i) c o (same-drift f c i) k (two .column) q B 0 (λ j m p d. near-of c j o m p q d))))
+      (omega (arith, pulse-near (first-accepted f i) (second-accepted f i) c o (clock-same f c i) k (two .column) q B 0 (λ j m p d. near-of c j o m p q d))))
       (λ q. let same = same-next f c i o
       (λ m p t. (another-column f m (λ e. true≢false (sym t ∙ ap (is-predecessor w c) e ∙ q)), up-to f m (omega arith) (omega (arith, i)) p)) in
       omega arith)
@@ -209,9 +209,9 @@ module _ {s : Settings} {ts : List ℕ} {xs ys : List Call} {rs qs : List (List 
       rw (first-pulse n c j o, second-pulse n c j o)
       (omega (
         arith,
-        pulse-step (first-accepted n j) (second-accepted n j) c o (same-drift n c j) D
+        pulse-step (first-accepted n j) (second-accepted n j) c o (clock-same n c j) D
             (λ m p t. record { mark = same-mark n m j p (another-row n m (omega arith)); value = alike .links n c m j o p t (another-row n m (omega arith)); time = λ u. close m p .0 }),
-        pulse-step (second-accepted n j) (first-accepted n j) c o (sym (same-drift n c j)) D
+        pulse-step (second-accepted n j) (first-accepted n j) c o (other-way (clock-same n c j)) D
             (λ m p t. record { mark = sym (same-mark n m j p (another-row n m (omega arith))); value = sym (alike .links n c m j o p t (another-row n m (omega arith))); time = λ u. close m p .1 }),
       ))
 

@@ -88,7 +88,7 @@ ready-requires c κs =
     let at = c .before .before .before .before in
     let due = c .before .before .before .due in
     let s = start at in
-    let input : 6710 ≤ length (at .loop .input) = omega (arith, at .loop .inv .0, s .pre .0) in
+    let input : 7734 ≤ length (at .loop .input) = omega (arith, at .loop .inv .0, s .pre .0) in
     (at .loop .inv .5 .between, input, omega (arith, at .loop .inv .4, s .pre .4), due .ensures .0, due .ensures .1)
 
 enum-known-made : tie.Need-enum-known-made Inv-loop μ-loop

@@ -5,8 +5,8 @@ use std::collections::BTreeMap;
 use wall_reference::file::FileRefused;
 
 /// The numbers that a file can be turned away with.
-const REACHABLE: [u8; 18] = [
-    1, 2, 3, 4, 5, 6, 7, 8, 9, 22, 24, 25, 26, 41, 42, 43, 44, 45,
+const REACHABLE: [u8; 19] = [
+    1, 2, 3, 4, 5, 6, 7, 8, 9, 22, 24, 25, 26, 41, 42, 43, 44, 45, 53,
 ];
 
 /// How often each number was met.

@@ -14,6 +14,7 @@ use wall_reference::generate::rng::Rng;
 use wall_reference::print::wallrun;
 use wall_reference::rule::Letter;
 use wall_reference::shape::is_marked;
+use wall_reference::LARGEST_PHASE;
 
 #[derive(Default)]
 pub struct Wallrun {
@@ -25,6 +26,8 @@ pub struct Wallrun {
     tiles: u64,
     /// Those that are correct, by letter.
     lettered: BTreeMap<Letter, u64>,
+    /// Tiles by `PHASES`, faulty ones among them.
+    phased: [u64; PHASES.len()],
     /// Faulty tiles by what they send, those of row 0 among them, which is not printed.
     faulty: BTreeMap<Kind, u64>,
     closed: u64,
@@ -33,6 +36,15 @@ pub struct Wallrun {
     bad_arguments: u64,
     refusals: Refusals,
 }
+
+/// A part of the range of phases: its name, and whether a phase is in it.
+type Part = (&'static str, fn(u32) -> bool);
+
+const PHASES: [Part; 3] = [
+    ("phase 0", |phase| phase == 0),
+    ("phase 999,999", |phase| phase == LARGEST_PHASE),
+    ("phase between", |phase| (1..LARGEST_PHASE).contains(&phase)),
+];
 
 /// Words that are not the name of a file that there is.
 const BAD: [&str; 6] = ["", "0", "12", "-x", "--helpx", "no-such.wall"];
@@ -79,6 +91,9 @@ impl Reference for Wallrun {
         for (letter, count) in &self.lettered {
             line(&format!("  {letter}"), *count);
         }
+        for ((name, _), count) in PHASES.iter().zip(self.phased) {
+            line(&format!("  {name}"), count);
+        }
         line("faulty tiles", self.faulty.values().sum());
         for (kind, count) in &self.faulty {
             line(&format!("  {}", name(*kind)), *count);
@@ -99,18 +114,25 @@ impl Reference for Wallrun {
         let letters = Letter::ALL.into_iter();
         let never = letters.filter(|letter| !self.lettered.contains_key(letter));
         missing.extend(never.map(|letter| format!("letter {letter}")));
+        let phases = PHASES.iter().zip(self.phased);
+        missing.extend(phases.filter(|(_, n)| *n == 0).map(|(at, _)| at.0.into()));
         missing
     }
 }
 
 impl Wallrun {
-    /// Counts the faulty tiles and, at row R of an accepted wall, the ends at which its settings stand.
+    /// Counts the phases, the faulty tiles and, at row R of an accepted wall, the ends at which its settings stand.
     fn add_rows(&mut self, file: &[u8]) {
         let add = |row: ShownRow| {
             let numbers = row.wall.settings().numbers();
             if row.number == row.wall.settings().rows() {
                 for ((_, stands_at), count) in ENDS.iter().zip(&mut self.at_ends) {
                     *count += u64::from(stands_at(&numbers));
+                }
+            }
+            for &phase in row.phases {
+                for ((_, stands_at), count) in PHASES.iter().zip(&mut self.phased) {
+                    *count += u64::from(stands_at(phase));
                 }
             }
             let columns = 0..row.wall.shape().columns();

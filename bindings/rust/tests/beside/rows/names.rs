@@ -1,13 +1,13 @@
 //! Which answers to row calls are to come up, by name.
 
-use super::{Answered, Call};
+use super::{by_reference, wall_of, Answered, Call};
 use crate::Answer;
 use wall_reference::shape::{are_neighbours, is_marked};
 
-/// Each answer by its names. Those of a written row say which letters it has, and which tile has its
-/// earliest or latest time, where one tile alone has it. Plain tiles are away from the ends and hear
-/// correct tiles only.
-pub const ANSWERS: [&str; 32] = [
+/// Each answer by its names. Those of a written row say which letters it has, whether a tile's time is
+/// another than at phase 0, and which tile has its earliest or latest time, where one tile alone has
+/// it. Plain tiles are away from the ends and hear correct tiles only.
+pub const ANSWERS: [&str; 36] = [
     "earliest in the first tile",
     "earliest in the last tile",
     "earliest inside",
@@ -33,12 +33,16 @@ pub const ANSWERS: [&str; 32] = [
     "letter m among eight plain tiles",
     "letter b among eight plain tiles",
     "letter l among eight plain tiles",
+    "moved by a phase",
+    "moved by a phase among eight plain tiles",
     "21",
+    "21 for the phases",
     "21 for the letters",
     "22",
     "23",
     "24",
     "25",
+    "53",
     "26",
 ];
 
@@ -48,6 +52,9 @@ impl Answer for Answered {
     fn names(&self, call: &Call) -> Vec<&'static str> {
         let ends = match &self.ends {
             Ok(ends) => [ends.earliest, ends.latest],
+            Err(21) if call.phases.len() != call.settings.columns as usize => {
+                return vec!["21", "21 for the phases"]
+            }
             Err(21) if call.letters.len() != call.settings.columns as usize => {
                 return vec!["21", "21 for the letters"]
             }
@@ -56,15 +63,25 @@ impl Answer for Answered {
             Err(23) => return vec!["23"],
             Err(24) => return vec!["24"],
             Err(25) => return vec!["25"],
+            Err(53) => return vec!["53"],
             Err(26) => return vec!["26"],
             Err(_) => return vec!["another number"],
         };
         let mut names = Vec::new();
+        let together = call.at_phase_0();
         for (column, letter) in self.letters.chars().enumerate() {
-            let [name, among_eight] = letter_names(letter);
-            names.push(name);
-            if call.is_one_of_eight(column) {
-                names.push(among_eight);
+            let mut pairs = vec![letter_names(letter)];
+            if self.times[column] != together[column] {
+                pairs.push([
+                    "moved by a phase",
+                    "moved by a phase among eight plain tiles",
+                ]);
+            }
+            for [name, among_eight] in pairs {
+                names.push(name);
+                if call.is_one_of_eight(column) {
+                    names.push(among_eight);
+                }
             }
         }
         if ends[0] == ends[1] {
@@ -94,6 +111,12 @@ fn letter_names(letter: char) -> [&'static str; 2] {
 }
 
 impl Call {
+    /// The times that an accepted call writes where all its phases are 0.
+    fn at_phase_0(&self) -> Vec<u64> {
+        let phases = vec![0; self.phases.len()];
+        by_reference(&wall_of(self.settings), self, &phases).times
+    }
+
     /// Where a tile stands: pairs of names, one for the earliest there and one for the latest.
     fn places(&self, column: usize) -> Vec<[&'static str; 2]> {
         let last = self.before.len() - 1;

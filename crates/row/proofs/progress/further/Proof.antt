@@ -21,20 +21,20 @@ use Rattle.row.proofs.progress.further.Statement.{statement}
 use Rattle.row.proofs.progress.further.Tie as tie
 
 abbrev Inv-loop : tie.InvT-loop
-Inv-loop settings step before marks drifts links times₀ letters₀ first so-far₀ times letters so-far =
-    So-far settings before (call marks drifts links (settings .width) (settings .width)) (pulses times₀ letters₀) (pulses times letters) so-far
+Inv-loop settings step before marks drifts phases links times₀ letters₀ first so-far₀ times letters so-far =
+    So-far settings before (call marks drifts phases links (settings .width) (settings .width)) (pulses times₀ letters₀) (pulses times letters) so-far
     × (first ≤ so-far .next)
     × (so-far .next ≤ first + 8)
 
 abbrev μ-loop : tie.MeasureT-loop
-μ-loop settings step before marks drifts links times₀ letters₀ first so-far₀ times letters so-far = first + 8 - so-far .next
+μ-loop settings step before marks drifts phases links times₀ letters₀ first so-far₀ times letters so-far = first + 8 - so-far .next
 
 abbrev start : tie.After-plain Inv-loop μ-loop → tie.Start Inv-loop μ-loop
-start c = c .before .before .before .before .before .before .before
+start c = c .before .before .before .before .before .before .before .before
 
 -- what was lent
 abbrev lent : tie.Start Inv-loop μ-loop → Call
-lent s = call (s .args .marks .now) (s .args .drifts .now) (s .args .links .now) (s .args .settings .width) (s .args .settings .width)
+lent s = call (s .args .marks .now) (s .args .drifts .now) (s .args .phases .now) (s .args .links .now) (s .args .settings .width) (s .args .settings .width)
 
 ok : (s : tie.Start Inv-loop μ-loop) → Accepted (s .args .settings) (s .args .before .now) (lent s)
 ok s = accepted (s .args .settings) (s .args .before .now) (lent s) (s .pre .0 .0)
@@ -49,6 +49,7 @@ record Sizes (s : tie.Start Inv-loop μ-loop) : Type 0 where
   pub letters : length (s .args .letters .now) ≡ s .args .settings .width
   pub before : length (s .args .before .now) ≡ s .args .settings .width
   pub drifts : length (s .args .drifts .now) ≡ s .args .settings .width
+  pub phases : length (s .args .phases .now) ≡ s .args .settings .width
   pub marks : length (s .args .marks .now) ≡ mark-bytes (s .args .settings .width)
 
 sizes : (s : tie.Start Inv-loop μ-loop) → Sizes s
@@ -61,12 +62,13 @@ sizes s =
       letters = s .pre .0 .3;
       before = ok s .lengths .before;
       drifts = ok s .lengths .drifts;
+      phases = ok s .lengths .phases;
       marks = ok s .lengths .marks;
     }
 
 plain-requires : tie.Need-plain-requires Inv-loop μ-loop
 plain-requires c κs =
-    let z = sizes (c .before .before .before .before .before .before) in
+    let z = sizes (c .before .before .before .before .before .before .before) in
     (omega (arith, z .here, z .before), omega (arith, z .most, z .before), z .marks ∙ ap mark-bytes (sym (z .before)))
 
 -- one tile
@@ -124,14 +126,8 @@ in-row c =
     let p = subst (λ (w : ℕ). Plain w (a .marks .now) (a .done .next)) (z .before) (stretch c) in
     record { from = i .1; to = c .if2 .taken; in-row = omega (arith, c .if2 .taken, p .quiet .inside); plain = p }
 
-mul-correct : tie.Need-mul-correct Inv-loop μ-loop
-mul-correct c = let z = sizes (begin c) in omega (arith, in-row c .in-row, z .most)
-
-shared-slice-read-correct : tie.Need-shared-slice-read-correct Inv-loop μ-loop
-shared-slice-read-correct c = let z = sizes (begin (c .before)) in omega (arith, in-row (c .before) .in-row, z .drifts)
-
-cast-correct : tie.Need-cast-correct Inv-loop μ-loop
-cast-correct c = omega (arith, c .shared-slice-known5 .given (column (c .before)))
+clock-requires : tie.Need-clock-requires Inv-loop μ-loop
+clock-requires c κs = let z = sizes (begin c) in (omega (arith, in-row c .in-row, z .drifts), omega (arith, in-row c .in-row, z .phases))
 
 correct-requires : tie.Need-correct-requires Inv-loop μ-loop
 unfolding call
@@ -139,7 +135,7 @@ correct-requires c κs =
     let t = c .before in
     let s = begin t in
     let i = in-row t in
-    plain-tile (ok s) (i .plain) (column t) (i .from) (i .to) (s .args .step) (s .pre .0 .1)
+    rw (c .clock .ensures) (plain-tile (ok s) (i .plain) (column t) (i .from) (i .to) (s .args .step) (s .pre .0 .1))
 
 put-requires-2 : tie.Need-put-requires-2 Inv-loop μ-loop
 put-requires-2 c κs =
@@ -168,7 +164,7 @@ loop-again c =
     let s = begin t in
     let i = in-row t in (
       tile-more (t .before .before .loop .inv .0) (omega (arith, i .in-row, sizes s .times)) (omega (arith, i .in-row, sizes s .letters)) (omega (arith, i .in-row))
-          (plain-pulse (ok s) (i .plain) (column t) (i .from) (i .to) (s .args .step) (s .pre .0 .1) (q .correct .ensures)) (p .put2 .ensures .0) (p .put2 .ensures .1 .0) (p .put2 .ensures .1 .1),
+          (plain-pulse (ok s) (i .plain) (column t) (i .from) (i .to) (s .args .step) (s .pre .0 .1) (rw (q .before .clock .ensures) at (q .correct .ensures))) (p .put2 .ensures .0) (p .put2 .ensures .1 .0) (p .put2 .ensures .1 .1),
       omega (arith, one-on p, i .from),
       omega (arith, one-on p, i .to),
     )
@@ -198,9 +194,7 @@ further-spec =
     returns
     loop-holds
     add-if2
-    mul-correct
-    shared-slice-read-correct
-    cast-correct
+    clock-requires
     correct-requires
     put-requires-2
     loop-less

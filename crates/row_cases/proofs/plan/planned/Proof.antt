@@ -14,8 +14,11 @@ times-requires c κs = search needs
 marks-requires : tie.Need-marks-requires
 marks-requires c κs = search needs
 
-drifts-requires : tie.Need-drifts-requires
-drifts-requires c κs = search needs
+stepping-requires : tie.Need-stepping-requires
+stepping-requires c κs = search needs
+
+stepping-requires-2 : tie.Need-stepping-requires-2
+stepping-requires-2 c κs = search needs
 
 links-requires : tie.Need-links-requires
 links-requires c κs = search needs
@@ -41,23 +44,29 @@ array-share-prefix-drifts c = search needs
 slice-aggregate-plan-3 : tie.Need-slice-aggregate-plan-3
 slice-aggregate-plan-3 c = simp length-take (omega arith)
 
-array-share-prefix-links : tie.Need-array-share-prefix-links
-array-share-prefix-links c = search needs
+array-share-prefix-phases : tie.Need-array-share-prefix-phases
+array-share-prefix-phases c = search needs
 
 slice-aggregate-plan-4 : tie.Need-slice-aggregate-plan-4
 slice-aggregate-plan-4 c = simp length-take (omega arith)
 
-array-borrow-prefix-row : tie.Need-array-borrow-prefix-row
-array-borrow-prefix-row c = search needs
+array-share-prefix-links : tie.Need-array-share-prefix-links
+array-share-prefix-links c = search needs
 
 slice-aggregate-plan-5 : tie.Need-slice-aggregate-plan-5
 slice-aggregate-plan-5 c = simp length-take (omega arith)
 
-array-borrow-prefix-letters : tie.Need-array-borrow-prefix-letters
-array-borrow-prefix-letters c = search needs
+array-borrow-prefix-row : tie.Need-array-borrow-prefix-row
+array-borrow-prefix-row c = search needs
 
 slice-aggregate-plan-6 : tie.Need-slice-aggregate-plan-6
 slice-aggregate-plan-6 c = simp length-take (omega arith)
+
+array-borrow-prefix-letters : tie.Need-array-borrow-prefix-letters
+array-borrow-prefix-letters c = search needs
+
+slice-aggregate-plan-7 : tie.Need-slice-aggregate-plan-7
+slice-aggregate-plan-7 c = simp length-take (omega arith)
 
 plan-requires : tie.Need-plan-requires
 plan-requires c κs = search needs
@@ -78,7 +87,8 @@ planned-spec =
     sized-requires
     times-requires
     marks-requires
-    drifts-requires
+    stepping-requires
+    stepping-requires-2
     links-requires
     wall-requires
     array-share-prefix-before
@@ -87,12 +97,14 @@ planned-spec =
     slice-aggregate-plan-2
     array-share-prefix-drifts
     slice-aggregate-plan-3
-    array-share-prefix-links
+    array-share-prefix-phases
     slice-aggregate-plan-4
-    array-borrow-prefix-row
+    array-share-prefix-links
     slice-aggregate-plan-5
-    array-borrow-prefix-letters
+    array-borrow-prefix-row
     slice-aggregate-plan-6
+    array-borrow-prefix-letters
+    slice-aggregate-plan-7
     plan-requires
     look-requires
     told-requires

@@ -1,4 +1,4 @@
--- `fast` meets its contract. The loop's invariant: a column passed is fast where the largest drift of them is.
+-- `any_over` meets its contract. The loop's invariant: a column passed is over the limit where the largest value of them is.
 -- Assumes nothing.
 use mathlib.Core.Path.{_≡_, sym}
 use mathlib.Core.Bool.{_||_, or-true, or-false}
@@ -11,9 +11,9 @@ use lib.ListN.{getD}
 use borrow.Author.Tests.{lt-ltb, le-ltb}
 use Rattle.settings.specs.Refusal.{any-below}
 use Rattle.settings.proofs.Laws.Cases.{by-order}
-use Rattle.admission.specs.Refusal.{fast}
-use Rattle.admission.proofs.fast.Statement.{statement}
-use Rattle.admission.proofs.fast.Tie as tie
+use Rattle.admission.specs.Refusal.{over}
+use Rattle.admission.proofs.any_over.Statement.{statement}
+use Rattle.admission.proofs.any_over.Tie as tie
 
 -- over the limit, of two numbers
 larger-new : (r m d : ℕ) → m ≤ d → (ltb r m || ltb r d) ≡ ltb r d
@@ -29,20 +29,20 @@ larger-old r m d i =
     (λ j. rw (lt-ltb r m (omega arith)))
 
 abbrev Inv-loop : tie.InvT-loop
-Inv-loop width limit drifts most₀ c₀ most c = (c ≤ width) × (most < 2 ^ 32) × (any-below c (fast limit drifts) ≡ ltb limit most)
+Inv-loop width limit values most₀ c₀ most c = (c ≤ width) × (most < 2 ^ 32) × (any-below c (over limit values) ≡ ltb limit most)
 
 abbrev μ-loop : tie.MeasureT-loop
-μ-loop width limit drifts most₀ c₀ most c = width - c
+μ-loop width limit values most₀ c₀ most c = width - c
 
 loop-holds : tie.Need-loop-holds Inv-loop μ-loop
 unfolding any-below
 loop-holds c = (omega arith, omega arith, sym (le-ltb (c .args .limit) 0 (omega arith)))
 
-mul-drift : tie.Need-mul-drift Inv-loop μ-loop
-mul-drift c = omega arith
+mul-value : tie.Need-mul-value Inv-loop μ-loop
+mul-value c = omega arith
 
-shared-slice-read-drift : tie.Need-shared-slice-read-drift Inv-loop μ-loop
-shared-slice-read-drift c = omega arith
+shared-slice-read-value : tie.Need-shared-slice-read-value Inv-loop μ-loop
+shared-slice-read-value c = omega arith
 
 add-c : tie.Need-add-c Inv-loop μ-loop
 add-c c = omega arith
@@ -51,12 +51,12 @@ loop-less : tie.Need-loop-less Inv-loop μ-loop
 loop-less c = omega arith
 
 loop-again : tie.Need-loop-again Inv-loop μ-loop
-unfolding any-below fast
+unfolding any-below over
 loop-again c =
     let l = c .before .before .before in
     let a = l .before .args in
     let k = l .loop .c in
-    let d = getD (a .drifts .now) k 0 in
+    let d = getD (a .values .now) k 0 in
     let fits = c .before .shared-slice-known .given k in
     let small : c .if1 .most < 2 ^ 32 =
     ⊎-elim (λ w. omega (arith, w .1, fits)) (λ w. omega (arith, w .1)) (c .if1 .came) in (
@@ -78,15 +78,15 @@ returns c =
     let all : l .loop .c ≡ l .before .args .width = omega arith in
     sym (rw all at (l .loop .inv .2))
 
-pub fast-spec : {M : Type 1} → statement M
-fast-spec =
+pub any-over-spec : {M : Type 1} → statement M
+any-over-spec =
     tie.close
     (tie.spec
     Inv-loop
     μ-loop
     loop-holds
-    mul-drift
-    shared-slice-read-drift
+    mul-value
+    shared-slice-read-value
     add-c
     loop-less
     loop-again

@@ -1,11 +1,11 @@
--- `handed::times` is safe and ends. Assumes nothing.
+-- `times` is safe and ends. Assumes nothing.
 use mathlib.Core.Path.{_≡_}
 use Prim.Native.Nat.{_-_, _≤_}
 use lib.ListN.{length, length-set}
 use native.Mathlib.Omega.{arith}
 use borrow.Author.Needs.{needs}
-use Rattle.row_cases.proofs.handed.times.Statement.{statement}
-use Rattle.row_cases.proofs.handed.times.Tie as tie
+use Rattle.row_inputs.proofs.times.Statement.{statement}
+use Rattle.row_inputs.proofs.times.Tie as tie
 
 abbrev Inv-loop : tie.InvT-loop
 Inv-loop kind most at3 all₀ c₀ all c = (c ≤ 256) × (length all ≡ 1024)

@@ -1,11 +1,11 @@
--- `handed::connected` is safe and ends. Assumes nothing.
+-- `connected` is safe and ends. Assumes nothing.
 use mathlib.Core.Path.{_≡_}
 use Prim.Native.Nat.{_+_, _-_, _*_, _≤_}
 use lib.ListN.{length, length-set}
 use native.Mathlib.Omega.{arith}
 use borrow.Author.Needs.{needs}
-use Rattle.row_cases.proofs.handed.connected.Statement.{statement}
-use Rattle.row_cases.proofs.handed.connected.Tie as tie
+use Rattle.row_inputs.proofs.connected.Statement.{statement}
+use Rattle.row_inputs.proofs.connected.Tie as tie
 
 abbrev Inv-loop : tie.InvT-loop
 Inv-loop width faulty arrival all₀ at₀ all at = (at ≤ 3 * width + 2) × (length all ≡ 1024)

@@ -2,7 +2,7 @@
 // tile, and else for a call.
 use cases::Numbers;
 ghost use mathlib.Core.Path.{_≡_};
-ghost use Prim.Native.Nat.{_<_};
+ghost use Prim.Native.Nat.{_<_, _^_};
 ghost use lib.ListN.{length};
 
 // Times that step up and down along the row, or are the same but at column 3.
@@ -36,19 +36,20 @@ pub fn marks(kind: u8, column: u64, first: u64) -> [u8; 1024]
     all
 }
 
-// Drifts that differ from column to column, or none but at column 5.
-pub fn drifts(kind: u8, at_5: u64) -> [u32; 1024]
+// Values that step along the row within a range, or none but at column 5: the drifts, and the phases.
+pub fn stepping(kind: u8, step: u64, range: u64, at_5: u64) -> [u32; 1024]
+    requires { ⌜ (step < 2 ^ 32) × (0 < range) × (range < 2 ^ 32) ⌝ }
     ensures { λ r. ⌜ 1024 ≡ length r ⌝ }
 {
     let mut all = [0u32; 1024];
     if kind == b'f' {
         let mut c: u64 = 0;
         while c < 256 {
-            all[c as usize] = (c * 13 % 101) as u32;
+            all[c as usize] = (c * step % range) as u32;
             c += 1;
         }
     } else {
-        all[5] = (at_5 % 1024) as u32;
+        all[5] = (at_5 % 4_294_967_296) as u32;
     }
     all
 }
@@ -61,8 +62,8 @@ pub fn links(kind: u8, n: Numbers) -> [u64; 1024]
         return connected(n.0 % 257, n.1 % 256 + 3, n.2);
     }
     let mut all = [1000u64; 1024];
-    all[0] = n.10;
-    all[19] = n.11;
+    all[0] = n.12;
+    all[19] = n.13;
     all
 }
 
