@@ -17,7 +17,7 @@ use Rattle.columns.specs.Marks.{marked, mark-bytes, faulty-among}
 -- for W letters (§E3.4)
 unfoldable pub lengths-are : (w before marks drifts phases links room letter-room : ℕ) → Bool
 lengths-are w before marks drifts phases links room letter-room =
-    eqb before w && (eqb marks (mark-bytes w) && (eqb drifts w && (eqb phases w && (eqb links (3 * w + 2) && (eqb room w && eqb letter-room w)))))
+    eqb before w && eqb marks (mark-bytes w) && eqb drifts w && eqb phases w && eqb links (3 * w + 2) && eqb room w && eqb letter-room w
 
 -- §7.4 not 21, of what a call is lent
 unfoldable pub lengths-right : (w : ℕ) → (before : List ℕ) → Call → Bool

@@ -86,25 +86,13 @@ fn lengths(
     requires { ⌜ width ≤ 256 ⌝ }
     ensures { λ r. ⌜ r ≡ lengths-are width before marks drifts phases links room letters ⌝ }
 {
-    if before != width {
-        return false;
-    }
-    if marks != (width + 7) / 8 {
-        return false;
-    }
-    if drifts != width {
-        return false;
-    }
-    if phases != width {
-        return false;
-    }
-    if links != 3 * width + 2 {
-        return false;
-    }
-    if room != width {
-        return false;
-    }
-    letters == width
+    (before == width)
+        & (marks == (width + 7) / 8)
+        & (drifts == width)
+        & (phases == width)
+        & (links == 3 * width + 2)
+        & (room == width)
+        & (letters == width)
 }
 
 // 22: a mark past the last column.

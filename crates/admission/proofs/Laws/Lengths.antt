@@ -20,22 +20,22 @@ pub sized : (w before marks drifts phases links room letters : ℕ) → lengths-
     Sized w before marks drifts phases links room letters
 unfolding lengths-are
 sized w before marks drifts phases links room letters e =
-    let t6 = eqb room w && eqb letters w in
-    let t5 = eqb links (3 * w + 2) && t6 in
-    let t4 = eqb phases w && t5 in
-    let t3 = eqb drifts w && t4 in
-    let e1 = and-eq-true-iff (eqb before w) (eqb marks (mark-bytes w) && t3) .0 e in
-    let e2 = and-eq-true-iff (eqb marks (mark-bytes w)) t3 .0 (e1 .1) in
-    let e3 = and-eq-true-iff (eqb drifts w) t4 .0 (e2 .1) in
-    let e4 = and-eq-true-iff (eqb phases w) t5 .0 (e3 .1) in
-    let e5 = and-eq-true-iff (eqb links (3 * w + 2)) t6 .0 (e4 .1) in
-    let e6 = and-eq-true-iff (eqb room w) (eqb letters w) .0 (e5 .1) in
+    let t2 = eqb before w && eqb marks (mark-bytes w) in
+    let t3 = t2 && eqb drifts w in
+    let t4 = t3 && eqb phases w in
+    let t5 = t4 && eqb links (3 * w + 2) in
+    let e6 = and-eq-true-iff (t5 && eqb room w) (eqb letters w) .0 e in
+    let e5 = and-eq-true-iff t5 (eqb room w) .0 (e6 .0) in
+    let e4 = and-eq-true-iff t4 (eqb links (3 * w + 2)) .0 (e5 .0) in
+    let e3 = and-eq-true-iff t3 (eqb phases w) .0 (e4 .0) in
+    let e2 = and-eq-true-iff t2 (eqb drifts w) .0 (e3 .0) in
+    let e1 = and-eq-true-iff (eqb before w) (eqb marks (mark-bytes w)) .0 (e2 .0) in
     record {
       before = eqb-true before w (e1 .0);
-      marks = eqb-true marks (mark-bytes w) (e2 .0);
-      drifts = eqb-true drifts w (e3 .0);
-      phases = eqb-true phases w (e4 .0);
-      links = eqb-true links (3 * w + 2) (e5 .0);
-      room = eqb-true room w (e6 .0);
+      marks = eqb-true marks (mark-bytes w) (e1 .1);
+      drifts = eqb-true drifts w (e2 .1);
+      phases = eqb-true phases w (e3 .1);
+      links = eqb-true links (3 * w + 2) (e4 .1);
+      room = eqb-true room w (e5 .1);
       letters = eqb-true letters w (e6 .1);
     }
