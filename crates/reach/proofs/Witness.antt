@@ -31,7 +31,7 @@ unfolding Search-range-met Search-range Witnessed Rows-met
 search-range-met search-range =
     rw (rows-met .0, rows-met .1) at (search-range wall row-0 first-run second-run 1 3 2 witnessed all-rows (lit< tt) (unfold wall settings in lit≤ tt))
 
-largest : largest-of wall 0 0 (take (wall .rows) (row-0 ∷ first-rows)) ≡ 97
+largest : largest-of wall 0 0 (take (wall .rows) (row-0 ∷ first-rows)) ≡ 105
 unfolding wall settings row-0 first-rows largest-of last-reach reach-ticks widest-gap gap-below widest apart neighbours columns-from are-neighbours
 largest = refl
 

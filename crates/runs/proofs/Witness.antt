@@ -141,7 +141,7 @@ pub differences-met : Differences-met
 unfolding Differences-met row-at first-rows second-rows table-from apart widest-gap gap-below widest neighbours are-neighbours columns-from
 differences-met = (refl, refl)
 
--- 0, 0, 24, 46, 24 and 24, each at most 2 × 0 + 8 × 12 + 0
+-- 0, 0, 26, 49, 27 and 27, each at most 2 × 0 + 8 × 13 + 0
 bounded : (c : ℕ) → c < 6 → apart (first-at 2 c) (second-at 2 c) ≤ reach-ticks wall (widest-gap 6 (row-at row-0 first-rows 1)) 1
 unfolding row-at first-rows second-rows apart reach-ticks wall settings widest-gap gap-below widest neighbours are-neighbours columns-from
 bounded =

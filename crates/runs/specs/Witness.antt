@@ -1,6 +1,6 @@
--- Two runs that meet the hypotheses of §12.3 and differ as far as 3h does not allow. The wall has W 6, R 2, d 100, u 10, A 400, r 0,
--- h 12. All of row 0 is at 1000; a tile's own link has the longest delay, its other links the shortest. In the second run the tile of
--- column 3 in row 1 is broken, its arrivals come at 0, and a call is turned away in between. Assumes nothing.
+-- Two runs that meet the hypotheses of §12.3 and differ as far as 3h does not allow. The wall has W 6, R 2, d 100, u 10, A 400, r 2500,
+-- h 13. All of row 0 is at 1000, and every clock drifts by r; a tile's own link has the longest delay, its other links the shortest. In the
+-- second run the tile of column 3 in row 1 is broken, its arrivals come at 0, and a call is turned away in between. Assumes nothing.
 use mathlib.Core.Path.{_≡_}
 use mathlib.Core.List.{List, [], _∷_}
 use Prim.Native.Nat.{ℕ}
@@ -14,26 +14,26 @@ use Rattle.runs.specs.Reach.{Alike, Two-runs, apart, widest-gap, Reach, 
 
 -- §11.1 the settings of both runs
 unfoldable pub wall : Settings
-wall = settings 6 2 100 10 400 0 12
+wall = settings 6 2 100 10 400 2500 13
 
 -- §11.1 their row 0
 unfoldable pub row-0 : List ℕ
 row-0 = replicate 6 1000
 
--- §E4.5 the phases of its tiles, in either
+-- §E4.5 the phases of the tiles, in either; with phase 0 tile 2 of row 2 would pulse a tick earlier in the second run
 unfoldable pub phases : List ℕ
 phases = 0 ∷ 999999 ∷ 40000 ∷ 1 ∷ 500000 ∷ 999999 ∷ []
 
 -- §11.6 a row without faults: the links of tiles 0 to 5, own's among them 100
 unfoldable pub sound : Call
 sound =
-    call (0 ∷ []) (replicate 6 0) phases
+    call (0 ∷ []) (replicate 6 2500) phases
     (100 ∷ 90 ∷ 90 ∷ 90 ∷ 100 ∷ 90 ∷ 90 ∷ 90 ∷ 100 ∷ 90 ∷ 90 ∷ 100 ∷ 90 ∷ 90 ∷ 90 ∷ 100 ∷ 90 ∷ 90 ∷ 90 ∷ 100 ∷ []) 6 6
 
 -- §11.6 column 3 is marked, and its links to tiles 2 to 5 are arrivals at 0
 unfoldable pub broken : Call
 broken =
-    call (8 ∷ []) (replicate 6 0) phases
+    call (8 ∷ []) (replicate 6 2500) phases
     (100 ∷ 90 ∷ 90 ∷ 90 ∷ 100 ∷ 90 ∷ 90 ∷ 90 ∷ 100 ∷ 0 ∷ 90 ∷ 0 ∷ 90 ∷ 90 ∷ 0 ∷ 100 ∷ 90 ∷ 0 ∷ 90 ∷ 100 ∷ []) 6 6
 
 -- §11.3 a call of wrong lengths, which is turned away
@@ -54,21 +54,21 @@ Witnessed = Two-runs Alike (wall .width) 1 3 (accepted-calls wall first-run row-
 
 -- §11.4 the rows of the first
 unfoldable pub first-rows : List (List ℕ)
-first-rows = replicate 6 1500 ∷ replicate 6 2000 ∷ []
+first-rows = replicate 6 1499 ∷ replicate 6 1998 ∷ []
 
 -- §11.4 the rows of the second
 unfoldable pub second-rows : List (List ℕ)
-second-rows = replicate 6 1500 ∷ (2000 ∷ 2000 ∷ 1976 ∷ 1954 ∷ 1976 ∷ 1976 ∷ []) ∷ []
+second-rows = replicate 6 1499 ∷ (1998 ∷ 1998 ∷ 1972 ∷ 1949 ∷ 1971 ∷ 1971 ∷ []) ∷ []
 
 -- §11.4 these are their rows
 unfoldable pub Rows-met : Type 0
 Rows-met = (rows wall first-run row-0 ≡ first-rows) × (rows wall second-run row-0 ≡ second-rows)
 
--- §12.3 B of row 1 is 0; the pulses of row 2 differ by 46 in the broken column, by 24 a hop from it, and not further off
+-- §12.3 B of row 1 is 0; the pulses of row 2 differ by 49 in the broken column, by 26 or 27 a hop from it, and not further off
 unfoldable pub Differences-met : Type 0
 Differences-met =
     (widest-gap 6 (row-at row-0 first-rows 1) ≡ 0)
-    × (table-from 6 0 (λ c. apart (getD (row-at row-0 first-rows 2) c 0) (getD (row-at row-0 second-rows 2) c 0)) ≡ 0 ∷ 0 ∷ 24 ∷ 46 ∷ 24 ∷ 24 ∷ [])
+    × (table-from 6 0 (λ c. apart (getD (row-at row-0 first-rows 2) c 0) (getD (row-at row-0 second-rows 2) c 0)) ≡ 0 ∷ 0 ∷ 26 ∷ 49 ∷ 27 ∷ 27 ∷ [])
 
 -- §12.3 the reach of that tile, by these numbers alone
 unfoldable pub Reach-met : Type 0
