@@ -25,12 +25,15 @@ use Rattle.links.specs.Links.{bad-value, bad-link, bad-links}
 use Rattle.runs.specs.Run.{accepted-calls, rows, call-at, row-at}
 use Rattle.runs.specs.Reach.{Alike, apart, widest, gap-below, widest-gap, reach-ticks, One-fault}
 use Rattle.settings.proofs.Laws.AnyBelow.{none-below}
-use Rattle.runs.specs.Witness.{wall, row-0, phases, sound, broken, stray, first-run, second-run, first-rows, second-rows, Witnessed, Rows-met, Differences-met, Reach-met, One-fault-met}
+use Rattle.runs.specs.Witness.{wall, row-0, phases, sound, broken, stray, first-run, second-run, first-rows, second-rows, without-phases, Witnessed, Rows-met, Phases-count, Differences-met, Reach-met, One-fault-met}
 
--- the rows and the accepted calls
-computed : Rows-met × (accepted-calls wall first-run row-0 ≡ sound ∷ sound ∷ []) × (accepted-calls wall second-run row-0 ≡ sound ∷ broken ∷ [])
-unfolding Rows-met first-rows second-rows first-run second-run rows accepted-calls wall row-0 phases sound broken stray settings call row-refusal row-tests first outside up settings-refusal settings-tests drift-cost any-below any-of mark-bytes lengths-are lengths-right stray-mark late-time faulty-among crowded over bad-value bad-link bad-links marked link link-place links-before place-in predecessors is-predecessor are-neighbours columns-from row-of table-from pulse tile-pulse tile-P P heard-correction D least-to larger-at larger smaller natural stamp arrival arrives read-at reads first-tick stamp-of earliest latest earlier later step-of step neighbours
-computed = ((refl, refl), refl, refl)
+-- the rows, with phases and without, and the accepted calls
+computed : Rows-met × Phases-count × (accepted-calls wall first-run row-0 ≡ sound ∷ sound ∷ []) × (accepted-calls wall second-run row-0 ≡ sound ∷ broken ∷ [])
+unfolding Rows-met Phases-count without-phases first-rows second-rows first-run second-run rows accepted-calls wall row-0 phases sound broken stray settings call row-refusal row-tests first outside up settings-refusal settings-tests drift-cost any-below any-of mark-bytes lengths-are lengths-right stray-mark late-time faulty-among crowded over bad-value bad-link bad-links marked link link-place links-before place-in predecessors is-predecessor are-neighbours columns-from row-of table-from pulse tile-pulse tile-P P heard-correction D least-to larger-at larger smaller natural stamp arrival arrives read-at reads first-tick stamp-of earliest latest earlier later step-of step neighbours
+computed = ((refl, refl), refl, refl, refl)
+
+pub phases-count : Phases-count
+phases-count = computed .1
 
 pub rows-met : Rows-met
 rows-met = computed .0
@@ -101,7 +104,7 @@ alike = record { as-many = refl; drifts = drifts; phases = same-phases; first-cl
 
 pub witnessed : Witnessed
 unfolding Witnessed wall settings
-witnessed = record { row = rw (computed .1) (lit< tt); column = lit< tt; alike = rw (computed .1, computed .2) alike }
+witnessed = record { row = rw (computed .2) (lit< tt); column = lit< tt; alike = rw (computed .2, computed .3) alike }
 
 -- a claim of each of six columns
 each-of-six : (Q : ℕ → Type 0) → Q 0 → Q 1 → Q 2 → Q 3 → Q 4 → Q 5 → (c : ℕ) → c < 6 → Q c

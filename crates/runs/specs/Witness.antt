@@ -2,7 +2,7 @@
 -- h 13. All of row 0 is at 1000, and every clock drifts by r; a tile's own link has the longest delay, its other links the shortest. In the
 -- second run the tile of column 3 in row 1 is broken, its arrivals come at 0, and a call is turned away in between. Assumes nothing.
 use mathlib.Core.Path.{_≡_}
-use mathlib.Core.List.{List, [], _∷_}
+use mathlib.Core.List.{List, [], _∷_, map}
 use Prim.Native.Nat.{ℕ}
 use lib.ListN.{getD, replicate}
 use Rattle.settings.specs.Settings.{settings}
@@ -20,7 +20,7 @@ wall = settings 6 2 100 10 400 2500 13
 unfoldable pub row-0 : List ℕ
 row-0 = replicate 6 1000
 
--- §E4.5 the phases of the tiles, in either; with phase 0 tile 2 of row 2 would pulse a tick earlier in the second run
+-- §E4.5 the phases of the tiles, in either
 unfoldable pub phases : List ℕ
 phases = 0 ∷ 999999 ∷ 40000 ∷ 1 ∷ 500000 ∷ 999999 ∷ []
 
@@ -63,6 +63,15 @@ second-rows = replicate 6 1499 ∷ (1998 ∷ 1998 ∷ 1972 ∷ 1949 ∷ 1971 ∷
 -- §11.4 these are their rows
 unfoldable pub Rows-met : Type 0
 Rows-met = (rows wall first-run row-0 ≡ first-rows) × (rows wall second-run row-0 ≡ second-rows)
+
+-- §E4.5 a call with phases of 0 in their place
+unfoldable pub without-phases : Call → Call
+without-phases x = call (x .marks) (x .drifts) (replicate 6 0) (x .links) (x .room) (x .letter-room)
+
+-- §E4.5 the phases count: without them tile 2 of row 2 pulses a tick earlier in the second run, and every other as it does
+unfoldable pub Phases-count : Type 0
+Phases-count =
+    rows wall (map without-phases second-run) row-0 ≡ replicate 6 1499 ∷ (1998 ∷ 1998 ∷ 1971 ∷ 1949 ∷ 1971 ∷ 1971 ∷ []) ∷ []
 
 -- §12.3 B of row 1 is 0; the pulses of row 2 differ by 49 in the broken column, by 26 or 27 a hop from it, and not further off
 unfoldable pub Differences-met : Type 0
