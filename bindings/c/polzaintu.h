@@ -45,7 +45,7 @@ extern "C" {
 
 /* The version of this header; polzaintu_version answers that of the archive. */
 #define POLZAINTU_VERSION_MAJOR 0
-#define POLZAINTU_VERSION_MINOR 5
+#define POLZAINTU_VERSION_MINOR 6
 #define POLZAINTU_VERSION_PATCH 0
 
 /* The version as one number, which grows from version to version. */
@@ -94,7 +94,8 @@ POLZAINTU_ANSWER static inline const char *polzaintu_words(uint32_t number) {
     case 11:
         return "the count of neighbours is neither 2 nor 3";
     case 12:
-        return "a stamp that is not silent is outside 0 to 2^41 - 1";
+        return "a stamp that is not silent, or the first reading of a running tile, is outside 0 "
+               "to 2^41 - 1";
     case 13:
         return "more than one stamp is silent";
     case 21:
@@ -128,6 +129,8 @@ POLZAINTU_ANSWER static inline const char *polzaintu_words(uint32_t number) {
         return "no closed wave is held";
     case 53:
         return "the phase of a tile is greater than 999,999";
+    case 54:
+        return "the sender is none of the tile's predecessors";
     /* numbers.tsv: end */
     case POLZAINTU_UNFIT:
         return "what was lent does not fit";
@@ -340,6 +343,71 @@ POLZAINTU_ANSWER uint32_t polzaintu_waves_ask(const polzaintu_waves *waves,
                                               polzaintu_half_ticks *half_ticks,
                                               polzaintu_half_gaps *half_gaps);
 
+/* ---- The tile as it runs: §E5.1 to §E5.9 ----
+ *
+ * A tile event by event, on its own clock: its senders' pulses come in at the open reading, until
+ * that is closed. Then the tile pulses, and its run is over, or the next reading opens. */
+
+/* How far its run has come. */
+enum {
+    POLZAINTU_BOARD_RUNNING = 0,
+    POLZAINTU_BOARD_PULSED = 1, /* over: the tile has pulsed */
+    POLZAINTU_BOARD_ENDED = 2   /* over: it has closed reading 2^42 - 1, and has not pulsed */
+};
+
+/* What a close answers. */
+enum {
+    POLZAINTU_WAITS = 0,  /* the next reading is open */
+    POLZAINTU_PULSES = 1, /* the tile pulses now */
+    POLZAINTU_DONE = 2    /* the run is over, and the tile does not pulse now */
+};
+
+/* A running tile; the four functions below alone write it. It may be copied: each copy goes on by
+ * itself. */
+typedef struct {
+    polzaintu_settings settings;
+    uint64_t count;     /* how many neighbours there are: 2 or 3 */
+    uint64_t stamps[4]; /* of own, then of each neighbour, the reading at which it was first heard:
+                           0 to 2^42 - 1, or POLZAINTU_SILENT; a place past the count stays so */
+    uint64_t repeats;   /* the pulses that were not the first of their sender: 0 to 65,535, where
+                           it stays */
+    uint64_t reading;   /* the open reading, or the one whose close ended the run: 0 to 2^42 - 1 */
+    uint64_t stage;     /* one of the three above */
+} polzaintu_board;
+
+/* Begins with nothing heard, at a first reading of 0 to 2^41 - 1; count is how many neighbours
+ * there are. Writes the board.
+ *
+ * Answers 0; 1 to 9; 11 for the count, 12 for the reading. */
+POLZAINTU_ANSWER uint32_t polzaintu_board_start(const polzaintu_settings *settings, uint64_t count,
+                                                uint64_t reading, polzaintu_board *board);
+
+/* A pulse comes in at the open reading; the sender is 0 for own, 1 to the count for a neighbour.
+ * Writes the board: the sender's first pulse is its stamp, any other is a repeat and only counted
+ * as one. Once the run is over every pulse is ignored, whoever sends it.
+ *
+ * Answers 0; POLZAINTU_UNFIT where *board was never started: a stage over 2, settings that don't
+ * pass, a count other than 2 or 3, a stamp that is neither POLZAINTU_SILENT nor at most 2^42 - 1,
+ * or a reading over 2^42 - 1; 54 for the sender. */
+POLZAINTU_ANSWER uint32_t polzaintu_board_pulse(polzaintu_board *board, uint64_t sender);
+
+/* Closes the open reading. Where at most one of own and the neighbours is unheard, there is a P, by
+ * the rule of polzaintu_tile, the unheard one being silent. The tile pulses where the reading is
+ * P + A or more. Otherwise, and while there is no P, the next reading opens; after reading 2^42 - 1
+ * none does, and the run is over. Once it is, a close is ignored. Writes the board, and the answer:
+ * one of the three above.
+ *
+ * Answers 0; POLZAINTU_UNFIT as above. */
+POLZAINTU_ANSWER uint32_t polzaintu_board_close(polzaintu_board *board, uint32_t *answer);
+
+/* n closes, one by one, in constant time. Writes the board, and the answer: POLZAINTU_PULSES where
+ * the tile pulses at one of them, otherwise POLZAINTU_WAITS, or POLZAINTU_DONE where the run is over
+ * after them. n may be 0, which leaves the board.
+ *
+ * Answers 0; POLZAINTU_UNFIT as above. */
+POLZAINTU_ANSWER uint32_t polzaintu_board_close_many(polzaintu_board *board, uint64_t n,
+                                                     uint32_t *answer);
+
 /* ---- How far one broken tile reaches: §12.3, §15.1 to §15.3 ---- */
 
 /* Writes B of a row's W times to gap: how far apart two neighbours pulse at most.
@@ -480,6 +548,7 @@ static_assert(sizeof(polzaintu_pair) == 2 * 8, "two words");
 static_assert(sizeof(polzaintu_waves) == 66 * 8, "sixty-six words");
 static_assert(sizeof(polzaintu_half_ticks) == 2 * 8, "two words");
 static_assert(sizeof(polzaintu_half_gaps) == 2 * 8, "two words");
+static_assert(sizeof(polzaintu_board) == 15 * 8, "fifteen words");
 static_assert(sizeof(polzaintu_range) == 3 * 8, "three words");
 static_assert(sizeof(polzaintu_broken) == 3 * 8, "three words");
 static_assert(sizeof(polzaintu_broken_in_row) == 4 * 8, "four words");

@@ -50,6 +50,8 @@ int main(void) {
     seam_tests();
     waves_tests();
     waves_reading_tests();
+    board_tests();
+    board_run_tests();
     places_tests();
     reach_tests();
     empty_tests();

@@ -2,11 +2,12 @@
 //!
 //! Each module renders one section of them: settings, clocks, the forwarding rule, the tile, the wall's
 //! shape, the row, the seam, the wall file and its printing, how far a faulty tile reaches, the words of a call,
-//! and the last waves of a seam.
+//! the last waves of a seam, and the tile as it runs.
 //! All sums are made in 128-bit signed numbers, far from any overflow. `generate` and `cases` are no part of
 //! the reference: they make wall files to compare programs on.
 
 pub mod arguments;
+pub mod board;
 pub mod cases;
 pub mod clock;
 pub mod file;

@@ -38,6 +38,8 @@ void row_tests(void);
 void seam_tests(void);
 void waves_tests(void);
 void waves_reading_tests(void);
+void board_tests(void);
+void board_run_tests(void);
 void places_tests(void);
 void reach_tests(void);
 void empty_tests(void);

@@ -13,6 +13,7 @@
 //! doesn't, so that each is a [`Letter`] after every call.
 #![allow(unsafe_code)]
 
+use crate::board::State;
 use crate::row::Lent;
 use crate::settings::Limits;
 use crate::Letter;
@@ -149,6 +150,7 @@ const _: () = assert!(size_of::<Pair>() == 2 * 8);
 const _: () = assert!(size_of::<Waves>() == 66 * 8);
 const _: () = assert!(size_of::<HalfTicks>() == 2 * 8);
 const _: () = assert!(size_of::<HalfGaps>() == 2 * 8);
+const _: () = assert!(size_of::<State>() == 15 * 8);
 const _: () = assert!(size_of::<Broken>() == 3 * 8);
 const _: () = assert!(size_of::<BrokenInRow>() == 4 * 8);
 const _: () = assert!(size_of::<Survey>() == 3 * 8);
@@ -202,6 +204,15 @@ extern "C" {
         half_ticks: *mut HalfTicks,
         half_gaps: *mut HalfGaps,
     ) -> u32;
+    fn polzaintu_board_start(
+        settings: *const Limits,
+        count: u64,
+        reading: u64,
+        board: *mut State,
+    ) -> u32;
+    fn polzaintu_board_pulse(board: *mut State, sender: u64) -> u32;
+    fn polzaintu_board_close(board: *mut State, answer: *mut u32) -> u32;
+    fn polzaintu_board_close_many(board: *mut State, n: u64, answer: *mut u32) -> u32;
     fn polzaintu_widest_gap(
         settings: *const Limits,
         row: *const u64,
@@ -347,6 +358,26 @@ pub fn waves_hand_in(
 pub fn waves_ask(waves: &Waves, half_ticks: &mut HalfTicks, half_gaps: &mut HalfGaps) -> u32 {
     // SAFETY: each struct is behind a reference; the two that are written are each behind a `&mut`.
     unsafe { polzaintu_waves_ask(waves, half_ticks, half_gaps) }
+}
+
+pub fn board_start(settings: &Limits, count: u64, reading: u64, board: &mut State) -> u32 {
+    // SAFETY: each struct is behind a reference; the board, which is written, is behind a `&mut`.
+    unsafe { polzaintu_board_start(settings, count, reading, board) }
+}
+
+pub fn board_pulse(board: &mut State, sender: u64) -> u32 {
+    // SAFETY: one struct behind a `&mut`, written.
+    unsafe { polzaintu_board_pulse(board, sender) }
+}
+
+pub fn board_close(board: &mut State, answer: &mut u32) -> u32 {
+    // SAFETY: the board and the answer, which are written, are each behind a `&mut`.
+    unsafe { polzaintu_board_close(board, answer) }
+}
+
+pub fn board_close_many(board: &mut State, n: u64, answer: &mut u32) -> u32 {
+    // SAFETY: the board and the answer, which are written, are each behind a `&mut`.
+    unsafe { polzaintu_board_close_many(board, n, answer) }
 }
 
 pub fn widest_gap(settings: &Limits, row: &[u64], gap: &mut u64) -> u32 {

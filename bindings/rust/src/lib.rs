@@ -14,6 +14,7 @@
 //! - [`seam::row_seam`], [`row::marked`], [`row::link_place`]: where the seams, marks and links of a
 //!   row stand.
 //! - [`waves::Waves`]: the last waves of a seam, and the largest and smallest half gap among them.
+//! - [`board::Board`]: a tile as it runs, event by event on its own clock.
 //! - [`reach`]: how far one broken tile reaches.
 //! - [`wall::Reader`]: the rows, the seams and the search range of a wall file; [`wall::Wall`] takes
 //!   one step by step.
@@ -43,6 +44,7 @@
 //! # Ok::<(), polzaintu::Refusal>(())
 //! ```
 
+pub mod board;
 mod ffi;
 mod letter;
 pub mod reach;

@@ -25,7 +25,7 @@ impl Refusal {
         }
     }
 
-    /// The number: 1 to 9, 11 to 13, 21 to 26, 31, 41 to 45, or 51 to 53.
+    /// The number: 1 to 9, 11 to 13, 21 to 26, 31, 41 to 45, or 51 to 54.
     #[must_use]
     pub fn number(self) -> u32 {
         self.0

@@ -14,7 +14,7 @@ pub(crate) fn of(number: u32) -> &'static str {
         8 => "h is less than u + c + 2, where c is r * A / (1,000,000 + r) rounded up",
         9 => "A is less than 16h",
         11 => "the count of neighbours is neither 2 nor 3",
-        12 => "a stamp that is not silent is outside 0 to 2^41 - 1",
+        12 => "a stamp that is not silent, or the first reading of a running tile, is outside 0 to 2^41 - 1",
         13 => "more than one stamp is silent",
         21 => "something lent is not as long as W asks",
         22 => "a mark is set beyond column W - 1",
@@ -31,6 +31,7 @@ pub(crate) fn of(number: u32) -> &'static str {
         51 => "n is outside 1 to 64",
         52 => "no closed wave is held",
         53 => "the phase of a tile is greater than 999,999",
+        54 => "the sender is none of the tile's predecessors",
         // numbers.tsv: end
         _ => "no such number",
     }

@@ -7,15 +7,19 @@ use places::seams::Columns;
 use places::seams::RowSeam;
 use reach::Gap;
 use reach::Reached;
+use reach::survey::Surveyed;
 use row::Planned;
 use seam::Seam;
+use settings::Settings;
 use tile::Forwarded;
 ghost use mathlib.Core.Path.{_≡_};
+ghost use lib.ListN.{getD};
 ghost use Rattle.tile.specs.Tile.{number-of as Tile·number-of};
 ghost use Rattle.row.specs.Row.{number-of as Row·number-of};
 ghost use Rattle.seam.specs.Seam.{number-of as Seam·number-of};
 ghost use Rattle.reach.specs.Answers.{gap-number};
-ghost use Rattle.calls.specs.Answers.{forwarded-left, ends-left, side-left, halves-left, gap-left, reach-number, reach-left, columns-number, columns-left, row-seam-number, row-seam-columns, row-seam-side, row-seam-halves, mark-number, mark-left, link-number, link-left};
+ghost use Rattle.reach.specs.Survey.{surveyed-of};
+ghost use Rattle.calls.specs.Answers.{forwarded-left, ends-left, side-left, halves-left, gap-left, reach-number, reach-left, survey-number, survey-left, columns-number, columns-left, row-seam-number, row-seam-columns, row-seam-side, row-seam-halves, mark-number, mark-left, link-number, link-left};
 
 // P, the correction, whether there is one, and the letter.
 pub fn forwarded_left(forwarded: Forwarded, answer: &mut [i64; 4]) -> u32
@@ -101,6 +105,22 @@ pub fn reach_left(reached: Reached, range: &mut [u64; 3]) -> u32
         }
         Reached::Outside => UNFIT,
         Reached::Refused(number) => number,
+    }
+}
+
+// The row that is due next, B of this one and the largest reach.
+pub fn survey_row(settings: Settings, row: &[u64], survey: &mut [u64; 3]) -> u32
+    ensures number { λ r. ⌜ r ≡ survey-number (surveyed-of settings (getD (now (survey .entry)) 0 0) (getD (now (survey .entry)) 2 0) (now (row .entry))) ⌝ }
+    ensures survey { λ r. ⌜ now (survey .exit) ≡ survey-left (surveyed-of settings (getD (now (survey .entry)) 0 0) (getD (now (survey .entry)) 2 0) (now (row .entry))) (now (survey .entry)) ⌝ }
+{
+    let due = survey[0];
+    match reach::survey::survey(settings, due, survey[2], row) {
+        Surveyed::Row { gap, largest } => {
+            *survey = [due + 1, gap, largest];
+            0
+        }
+        Surveyed::Outside => UNFIT,
+        Surveyed::Refused(number) => number,
     }
 }
 

@@ -1,11 +1,9 @@
 // The operations for C and for Rust, as bindings/c/polzaintu.h declares them. A struct of the header is an
 // array of words here. The answer is the refusal's number, or 0; what is lent to be written then holds what
 // it held.
-use layout::UNFIT;
 use layout::settings_in;
 use layout::stamps_in;
 use layout::wall_in;
-use reach::survey::Surveyed;
 ghost use mathlib.Core.Path.{_≡_};
 ghost use lib.ListN.{length, replicate, getD};
 ghost use Rattle.settings.specs.Settings.{settings-refusal};
@@ -25,6 +23,7 @@ ghost use Rattle.calls.specs.Answers.{forwarded-left, ends-left, side-left, hal
 ghost use Rattle.wall_calls.specs.Answers.{step-answer, next-left, step-number, wall-left, offset-left};
 ghost use Rattle.waves.specs.Wave.{wave};
 ghost use Rattle.wave_calls.specs.Answers.{start-number, start-left, wave-number, wave-left, wave-side, wave-halves, ask-number, half-ticks-left, ticks-left};
+ghost use Rattle.board_calls.specs.Answers.{start-number as Board·start-number, start-left as Board·start-left, pulse-number, pulse-left, close-number, close-left, close-answer, many-left, many-answer};
 
 #[no_mangle]
 pub extern "C" fn polzaintu_settings_refusal(settings: &[u64; 7]) -> u32
@@ -153,15 +152,7 @@ pub extern "C" fn polzaintu_survey_row(
     ensures number { λ r. ⌜ r ≡ survey-number (surveyed-of (settings-from 0 (now (settings .entry))) (getD (now (survey .entry)) 0 0) (getD (now (survey .entry)) 2 0) (now (row .entry))) ⌝ }
     ensures survey { λ r. ⌜ now (survey .exit) ≡ survey-left (surveyed-of (settings-from 0 (now (settings .entry))) (getD (now (survey .entry)) 0 0) (getD (now (survey .entry)) 2 0) (now (row .entry))) (now (survey .entry)) ⌝ }
 {
-    let due = survey[0];
-    match reach::survey::survey(settings_in(settings), due, survey[2], row) {
-        Surveyed::Row { gap, largest } => {
-            *survey = [due + 1, gap, largest];
-            0
-        }
-        Surveyed::Outside => UNFIT,
-        Surveyed::Refused(number) => number,
-    }
+    calls::survey_row(settings_in(settings), row, survey)
 }
 
 #[no_mangle]
@@ -315,10 +306,50 @@ pub extern "C" fn polzaintu_waves_ask(
     wave_calls::ask(waves, half_ticks, ticks)
 }
 
+// Begins a tile as it runs.
+#[no_mangle]
+pub extern "C" fn polzaintu_board_start(
+    settings: &[u64; 7],
+    count: u64,
+    reading: u64,
+    board: &mut [u64; 15],
+) -> u32
+    ensures number { λ r. ⌜ r ≡ Board·start-number (settings-from 0 (now (settings .entry))) count reading ⌝ }
+    ensures board { λ r. ⌜ now (board .exit) ≡ Board·start-left (settings-from 0 (now (settings .entry))) count reading (now (board .entry)) ⌝ }
+{
+    board_calls::start(settings_in(settings), count, reading, board)
+}
+
+#[no_mangle]
+pub extern "C" fn polzaintu_board_pulse(board: &mut [u64; 15], sender: u64) -> u32
+    ensures number { λ r. ⌜ r ≡ pulse-number (now (board .entry)) sender ⌝ }
+    ensures board { λ r. ⌜ now (board .exit) ≡ pulse-left (now (board .entry)) sender ⌝ }
+{
+    board_calls::pulse(board, sender)
+}
+
+#[no_mangle]
+pub extern "C" fn polzaintu_board_close(board: &mut [u64; 15], answer: &mut u32) -> u32
+    ensures number { λ r. ⌜ r ≡ close-number (now (board .entry)) ⌝ }
+    ensures board { λ r. ⌜ now (board .exit) ≡ close-left (now (board .entry)) ⌝ }
+    ensures answer { λ r. ⌜ now (answer .exit) ≡ close-answer (now (board .entry)) (now (answer .entry)) ⌝ }
+{
+    board_calls::close(board, answer)
+}
+
+#[no_mangle]
+pub extern "C" fn polzaintu_board_close_many(board: &mut [u64; 15], n: u64, answer: &mut u32) -> u32
+    ensures number { λ r. ⌜ r ≡ close-number (now (board .entry)) ⌝ }
+    ensures board { λ r. ⌜ now (board .exit) ≡ many-left (now (board .entry)) n ⌝ }
+    ensures answer { λ r. ⌜ now (answer .exit) ≡ many-answer (now (board .entry)) n (now (answer .entry)) ⌝ }
+{
+    board_calls::close_many(board, n, answer)
+}
+
 // The version as one number.
 #[no_mangle]
 pub extern "C" fn polzaintu_version() -> u32
-    ensures { λ r. ⌜ r ≡ 5000 ⌝ }
+    ensures { λ r. ⌜ r ≡ 6000 ⌝ }
 {
     version::NUMBER
 }

@@ -1,6 +1,8 @@
 //! The safe interface against the static library: every number, the cases of the requirements, and
 //! every stored wall file.
 
+mod board;
+mod board_runs;
 mod cases;
 mod common;
 mod places;

@@ -1,6 +1,7 @@
 //! What refusals say.
 
 use crate::common::{refused_settings, settings, WallFile, PRINTED};
+use polzaintu::board::Board;
 use polzaintu::row::{self, Lent};
 use polzaintu::seam;
 use polzaintu::tile::{self, Stamps};
@@ -122,4 +123,12 @@ fn waves_say_what_is_wrong() {
     let mut waves = Waves::start(64).unwrap();
     says(waves.ask().unwrap_err(), 52);
     says(waves.hand_in(Some(1 << 41), None).unwrap_err(), 31);
+}
+
+#[test]
+fn running_tiles_say_what_is_wrong() {
+    let start = |count, reading| Board::start(&settings(PRINTED), count, reading);
+    says(start(4, 0).unwrap_err(), 11);
+    says(start(2, 1 << 41).unwrap_err(), 12);
+    says(start(2, 0).unwrap().pulse(3).unwrap_err(), 54);
 }

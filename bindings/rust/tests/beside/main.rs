@@ -6,13 +6,16 @@
 //! Words for the harness of the other tests, such as a filter, are none for this one:
 //! `cargo test --test all FILTER`.
 
+mod board;
 mod rows;
 mod waves;
 
+use polzaintu::Limits;
 use std::collections::BTreeSet;
 use std::env;
 use std::fmt::{self, Debug};
 use std::process::ExitCode;
+use wall_reference::settings::Numbers;
 
 /// From so many seeds on, each answer that a kind names must have come up.
 const MANY: u64 = 1000;
@@ -26,7 +29,7 @@ struct Kind {
     run: fn(u64, &mut Tally) -> Result<(), Difference>,
 }
 
-const KINDS: [Kind; 2] = [
+const KINDS: [Kind; 3] = [
     Kind {
         name: "waves",
         answers: &waves::ANSWERS,
@@ -36,6 +39,11 @@ const KINDS: [Kind; 2] = [
         name: "rows",
         answers: &rows::ANSWERS,
         run: rows::run,
+    },
+    Kind {
+        name: "running tiles",
+        answers: &board::ANSWERS,
+        run: board::run,
     },
 ];
 
@@ -60,6 +68,19 @@ impl Bits {
 impl Debug for Bits {
     fn fmt(&self, f: &mut fmt::Formatter<'_>) -> fmt::Result {
         write!(f, "{:016x} = {:?}", self.0, f64::from_bits(self.0))
+    }
+}
+
+/// The reference's settings as the crate has them.
+fn limits(numbers: &Numbers) -> Limits {
+    Limits {
+        width: numbers.columns.into(),
+        rows: numbers.rows.into(),
+        delay: numbers.delay.into(),
+        uncertainty: numbers.uncertainty.into(),
+        hold: numbers.hold.into(),
+        drift: numbers.drift_limit.into(),
+        unit: numbers.unit.into(),
     }
 }
 

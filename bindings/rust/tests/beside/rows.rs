@@ -5,8 +5,8 @@ mod names;
 
 pub use names::ANSWERS;
 
-use crate::{Difference, Tally};
-use polzaintu::{row, Letter, Limits, Settings};
+use crate::{limits, Difference, Tally};
+use polzaintu::{row, Letter, Settings};
 use wall_reference::generate::describe::Description;
 use wall_reference::generate::rng::Rng;
 use wall_reference::generate::{numbers, rows, spoil};
@@ -102,15 +102,7 @@ fn by_reference(wall: &Wall, call: &Call, phases: &[u32]) -> Answered {
 }
 
 fn by_library(call: &Call) -> Answered {
-    let settings = Settings::new(Limits {
-        width: call.settings.columns.into(),
-        rows: call.settings.rows.into(),
-        delay: call.settings.delay.into(),
-        uncertainty: call.settings.uncertainty.into(),
-        hold: call.settings.hold.into(),
-        drift: call.settings.drift_limit.into(),
-        unit: call.settings.unit.into(),
-    });
+    let settings = Settings::new(limits(&call.settings));
     let lent = row::Lent {
         before: &call.before,
         marks: &call.marks,

@@ -1,0 +1,27 @@
+-- What is promised of each operation beside its contract. Each statement is proved in proofs/Promises.antt, under its name in small letters.
+-- What is promised of lists of calls stands in crate board_runs. Assumes nothing.
+use mathlib.Core.Path.{_≡_}
+use mathlib.Core.Bool.{false}
+use Prim.Native.Nat.{ℕ}
+use Rattle.board.specs.State.{runs, pulsed, shut-many, closed, closed-many}
+use Rattle.board.specs.Closing.{jumped}
+use Rattle.board.specs.declared.Board.{Board}
+use Rattle.board.specs.declared.stand.Answer.the-variants.{Done}
+
+-- §E5.2 54 keeps the state
+unfoldable pub Wrong-kept : Type 0
+Wrong-kept = (b : Board) (k : ℕ) → pulsed b k .number ≡ 54 → pulsed b k .board ≡ b
+
+-- §E5.4 once its run is over a tile ignores everything; so does one that does not fit (§E5.9)
+unfoldable pub Over-ignores : Type 0
+Over-ignores =
+    (b : Board) → runs b ≡ false →
+    ((k : ℕ) → pulsed b k ≡ record { number = 0; board = b }) × ((n : ℕ) → closed-many b n ≡ record { answer = Done; board = b })
+
+-- §E5.5 many closes in constant time are as many one by one
+unfoldable pub Closings-right : Type 0
+Closings-right = (n : ℕ) (b : Board) → shut-many n b ≡ jumped n b
+
+-- §E5.5 and one close is one of many
+unfoldable pub One-close : Type 0
+One-close = (b : Board) → closed b ≡ closed-many b 1

@@ -1,0 +1,30 @@
+-- `answer_word` meets its contract. Assumes nothing.
+use Rattle.board_calls.specs.Words.{answer-word}
+use borrow.Author.Needs.{needs}
+use Rattle.board_calls.proofs.answer_word.Statement.{statement}
+use Rattle.board_calls.proofs.answer_word.Tie as tie
+
+enum-told : tie.Need-enum-told
+enum-told c = search needs
+
+enum-told-2 : tie.Need-enum-told-2
+enum-told-2 c = search needs
+
+enum-told-3 : tie.Need-enum-told-3
+enum-told-3 c = search needs
+
+returns : tie.Need-returns
+unfolding answer-word
+returns c = rw (c .enum-told .given .1)
+
+returns-2 : tie.Need-returns-2
+unfolding answer-word
+returns-2 c = rw (c .enum-told2 .given .1)
+
+returns-3 : tie.Need-returns-3
+unfolding answer-word
+returns-3 c = rw (c .enum-told3 .given .1)
+
+pub answer-word-spec : {M : Type 1} → statement M
+answer-word-spec =
+    tie.close (tie.spec enum-told enum-told-2 enum-told-3 returns returns-2 returns-3)

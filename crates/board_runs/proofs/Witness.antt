@@ -1,0 +1,62 @@
+-- The proofs of what specs/Witness.antt states: the calls are computed. Assumes nothing.
+use mathlib.Core.Path.{_≡_, refl}
+use mathlib.Core.List.{List, [], _∷_}
+use native.Mathlib.Omega.{arith}
+use lib.ListN.{replicate}
+use Rattle.settings.specs.Settings.{settings}
+use Rattle.settings.proofs.Cases.{settings-computed}
+use Rattle.rule.specs.Signed.{natural}
+use Rattle.rule.specs.Stamp.{stamp-of, unheard-of, unheard-in, within, none, more, this, later-on}
+use Rattle.rule.specs.Pulse.{tile-P}
+use Rattle.rule.specs.Promises.{own-free, neighbour-free}
+use Rattle.rule.proofs.Cases.{rule-computed}
+use Rattle.senders.specs.Due.{due, has-P, reaches}
+use Rattle.senders.specs.Senders.{neighbours, code-at, stamp-at, own-stamp, neighbour-stamps, unheard-all, one-more, heard-by, stamp-fits, fit}
+use Rattle.board.specs.Stand.{stand, closing, told, is-running}
+use Rattle.board.specs.State.{reached, fits, runs, start-tests, start-refusal, fresh, started, hears, pulsed, at, shut as shut-once, shut-many as shut-often, answered, closed, closed-many}
+use Rattle.board.specs.Events.{close}
+use Rattle.board_runs.specs.Reading.{closes, first-pulse, neighbour-pulses}
+use Rattle.board_runs.specs.Program.{none as no-more, hear, shut, shut-many, events-of, all-events}
+use Rattle.board_runs.specs.Promises.{full-due}
+use Rattle.board_runs.specs.Witness.{wall, state, late-calls, Late-met, silent-calls, Silent-met, longer, far-calls, Farther-met}
+
+unfoldable computed : Unit {0}
+unfolding settings-computed rule-computed natural stamp-of unheard-of unheard-in tile-P neighbours code-at stamp-at own-stamp neighbour-stamps unheard-all one-more heard-by stamp-fits fit stand closing told is-running due has-P reaches reached fits runs start-tests start-refusal fresh started hears pulsed at shut-once shut-often answered closed closed-many closes first-pulse neighbour-pulses events-of all-events full-due wall longer state
+computed = tt
+
+pub late-met : Late-met
+unfolding computed Late-met late-calls
+late-met = (
+  hear 1 _ refl (shut-many 14 _ refl (hear 0 _ refl (shut-many 32 _ refl (shut _ refl (shut-many 13 _ refl (hear 2 _ refl no-more)))))),
+  refl,
+  refl,
+  record {
+    lo = 0;
+    hi = 14;
+    one-free = neighbour-free (within {a = 14} (omega arith) (omega arith)) (later-on (within {a = 0} (omega arith) (omega arith)) (this none));
+    on-time = omega arith;
+    near = omega arith;
+  },
+)
+
+pub silent-met : Silent-met
+unfolding computed Silent-met silent-calls
+silent-met = (
+  hear 2 _ refl (hear 1 _ refl (shut-many 38 _ refl (shut _ refl no-more))),
+  refl,
+  refl,
+  record {
+    lo = 0;
+    hi = 0;
+    one-free = own-free (more (within {a = 0} (omega arith) (omega arith)) (more (within {a = 0} (omega arith) (omega arith)) none));
+    on-time = omega arith;
+    near = omega arith;
+  },
+)
+
+pub farther-met : Farther-met
+unfolding computed Farther-met far-calls
+farther-met = (
+  hear 1 _ refl (shut-many 35 _ refl (hear 0 _ refl (shut-many 45 _ refl (hear 2 _ refl (shut _ refl no-more))))),
+  refl,
+)

@@ -1,0 +1,4 @@
+pub mod Reading
+pub mod Program
+pub mod Promises
+pub mod Witness

@@ -1,0 +1,38 @@
+-- The proofs of what specs/Cases.antt states. Assumes nothing.
+use mathlib.Core.Path.{refl}
+use Rattle.settings.proofs.Cases.{settings-computed}
+use Rattle.rule.specs.Signed.{natural}
+use Rattle.rule.specs.Stamp.{stamp-of, unheard-of, unheard-in}
+use Rattle.rule.specs.Pulse.{tile-P}
+use Rattle.rule.proofs.Cases.{rule-computed}
+use Rattle.senders.specs.Senders.{neighbours, code-at, stamp-at, own-stamp, neighbour-stamps, unheard, unheard-all, one-more, heard-by, stamp-fits, fit}
+use Rattle.senders.specs.Due.{due, has-P, reaches, due-code}
+use Rattle.senders.specs.Cases.{wall, senders, Unheard-cases, Heard-cases, Count-cases, Reaches-cases, Due-cases, Fit-cases}
+
+unfoldable computed : Unit {0}
+unfolding settings-computed rule-computed natural stamp-of unheard-of unheard-in tile-P neighbours code-at stamp-at own-stamp neighbour-stamps unheard unheard-all one-more heard-by stamp-fits fit due has-P reaches due-code wall senders
+computed = tt
+
+pub unheard-cases : Unheard-cases
+unfolding computed Unheard-cases
+unheard-cases = (refl, refl, refl, refl)
+
+pub heard-cases : Heard-cases
+unfolding computed Heard-cases
+heard-cases = (refl, refl, refl, refl)
+
+pub count-cases : Count-cases
+unfolding computed Count-cases
+count-cases = (refl, refl, refl)
+
+pub reaches-cases : Reaches-cases
+unfolding computed Reaches-cases
+reaches-cases = (refl, refl, refl, refl, refl, refl)
+
+pub due-cases : Due-cases
+unfolding computed Due-cases
+due-cases = (refl, refl, refl, refl, refl, refl)
+
+pub fit-cases : Fit-cases
+unfolding computed Fit-cases
+fit-cases = (refl, refl)

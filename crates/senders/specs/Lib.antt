@@ -1,0 +1,3 @@
+pub mod Senders
+pub mod Due
+pub mod Cases
