@@ -1,26 +1,26 @@
 -- The proofs of what specs/Cases.antt states: many closes are computed at once, the rest as it is. Assumes nothing.
-use mathlib.Core.Path.{_≡_, refl, sym, _∙_, ap}
+use mathlib.Core.Path.{_≡_, refl, _∙_, ap}
 use mathlib.Core.List.{List, [], _∷_}
 use Prim.Native.Nat.{ℕ, suc, _-_, _^_}
 use Rattle.settings.specs.declared.Settings.{Settings}
-use Rattle.settings.proofs.Cases.{settings-computed}
-use Rattle.rule.specs.Signed.{natural}
-use Rattle.rule.specs.Stamp.{stamp-of, unheard-of, unheard-in}
-use Rattle.rule.specs.Pulse.{tile-P}
-use Rattle.rule.proofs.Cases.{rule-computed}
-use Rattle.senders.specs.Due.{due, has-P, reaches, due-code}
-use Rattle.senders.specs.Senders.{last, neighbours, code-at, stamp-at, own-stamp, neighbour-stamps, unheard, unheard-all, one-more, heard-by, stamp-fits, fit}
+use Rattle.senders.proofs.Cases.{senders-computed}
+use Rattle.senders.specs.Senders.{last}
 use Rattle.board.specs.Stand.{stand, closing, told, is-running}
 use Rattle.board.specs.State.{reached, fits, runs, start-tests, start-refusal, fresh, started, hears, pulsed, at, shut, shut-many, answered, closed, closed-many}
 use Rattle.board.specs.Closing.{end-of, closings, jumped}
-use Rattle.board.specs.Cases.{wall, drifting, Start-cases, state, Fresh-case, Arrival, _at_, arrives, arrive, Pulses-at, In-each, Tile-cases, Three-cases, Unheard-cases, Repeat-cases, repeated, Count-cases, Sender-cases, Over-cases, late, Last-cases}
+use Rattle.board.specs.Cases.{wall, drifting, Start-cases, state, Fresh-case, Arrival, _at_, arrives, arrive, Pulses-at, In-each, Tile-cases, Three-cases, Late-start-case, Unheard-cases, Repeat-cases, repeated, Count-cases, Sender-cases, Over-cases, late, Last-cases}
 use Rattle.board.specs.declared.Board.{Board}
 use Rattle.board.specs.declared.stand.Stage.the-variants as stage
 use Rattle.board.proofs.Laws.Closing.{jumps}
 
--- what a state is computed by
+-- what a state is computed by; the crates above go on from it
+unfoldable pub board-computed : Unit {0}
+unfolding senders-computed stand closing told is-running reached fits runs start-tests start-refusal fresh started hears pulsed at answered
+board-computed = tt
+
+-- with many closes at once
 unfoldable computed : Unit {0}
-unfolding settings-computed rule-computed natural stamp-of unheard-of unheard-in tile-P neighbours code-at stamp-at own-stamp neighbour-stamps unheard unheard-all one-more heard-by stamp-fits fit stand told is-running due has-P reaches reached fits runs start-tests start-refusal fresh started hears pulsed at answered due-code end-of closings jumped wall drifting state
+unfolding board-computed end-of closings jumped wall drifting state
 computed = tt
 
 pub start-cases : Start-cases
@@ -96,6 +96,13 @@ three-cases = (
   each wall 3 566 _ ((refl, refl), ((refl, refl), ((refl, refl), tt))),
 )
 
+pub late-start-case : Late-start-case
+unfolding computed Late-start-case hop hops
+late-start-case =
+    let b = started wall 2 2199023255551 .board in
+    let xs = 2 at 2199023255551 ∷ 1 at 2199023255551 ∷ 0 at 2199023255551 ∷ [] in
+    rw (hop-is b xs) (ap (λ (c : Board). c .stand) (jumps 401 (hop b xs)))
+
 pub unheard-cases : Unheard-cases
 unfolding computed Unheard-cases hop hops
 unheard-cases =
@@ -121,9 +128,9 @@ unfolding computed Sender-cases
 sender-cases = (refl, refl, refl, refl, refl)
 
 pub over-cases : Over-cases
-unfolding computed Over-cases shut shut-many closed closed-many closing
+unfolding computed Over-cases shut shut-many closed closed-many
 over-cases = (refl, refl, refl, refl, refl, refl, refl, refl)
 
 pub last-cases : Last-cases
-unfolding computed Last-cases late shut closed closed-many closing
+unfolding computed Last-cases late shut closed closed-many
 last-cases = (refl, refl, refl, rw (jumps (2 ^ 64 - 1) (late 399 (last - 7) stage.Running)), refl, refl)

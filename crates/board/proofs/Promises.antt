@@ -1,12 +1,10 @@
 -- The proofs of what specs/Promises.antt states. Assumes nothing.
 use mathlib.Core.Path.{_≡_, refl}
 use mathlib.Core.Bool.{Bool, true, false, cond}
-use Prim.Native.Nat.{ℕ}
 use lib.Dec.{ltb}
 use native.Mathlib.Omega.{arith}
 use Rattle.board.specs.State.{runs, hears, pulsed, shut-many, answered, closed, closed-many}
 use Rattle.board.specs.Promises.{Wrong-kept, Over-ignores, Closings-right, One-close}
-use Rattle.board.specs.declared.Board.{Board}
 use Rattle.board.specs.declared.Heard.{Heard}
 use Rattle.board.proofs.Laws.State.{many-over}
 use Rattle.board.proofs.Laws.Closing.{jumps}

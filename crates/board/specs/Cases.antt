@@ -1,7 +1,7 @@
 -- The tile at numbers, with unit 12 and hold 400. Each statement is proved in proofs/Cases.antt, under its name in small letters. Assumes
 -- nothing.
 use mathlib.Core.Path.{_≡_}
-use mathlib.Core.List.{List, [], _∷_, map}
+use mathlib.Core.List.{List, [], _∷_}
 use Prim.Native.Nat.{ℕ, suc, _+_, _-_, _^_}
 use Rattle.senders.specs.Senders.{last}
 use Rattle.settings.specs.Settings.{settings}
@@ -103,6 +103,12 @@ Three-cases =
     ∷ (3 at 100 ∷ 1 at 120 ∷ 2 at 130 ∷ [])
     ∷ (2 at 100 ∷ 3 at 120 ∷ 1 at 130 ∷ [])
     ∷ [])
+
+-- §E5.1 a start as late as can be: all at once, and the tile pulses a hold later
+unfoldable pub Late-start-case : Type 0
+Late-start-case =
+    let v = 2 ^ 41 - 1 in
+    shut-many 401 (arrive (started wall 2 v .board) (2 at v ∷ 1 at v ∷ 0 at v ∷ [])) .stand ≡ stand (v + 400) stage.Pulsed
 
 -- §E5.3 while two or more are unheard it waits, however long; where P + A is past once there is a P, it pulses at that close
 unfoldable pub Unheard-cases : Type 0

@@ -141,7 +141,7 @@ impl Board {
         }
     }
 
-    // Whether the settings pass, the senders' stamps are readings or silence, and so is the open reading one.
+    // Whether the settings pass, the senders fit, and the reading is one that opens.
     pub fn fits(self) -> bool
         ensures { λ r. ⌜ r ≡ fits self ⌝ }
     {

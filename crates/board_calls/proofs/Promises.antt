@@ -1,16 +1,13 @@
 -- The proofs of what specs/Promises.antt states. Assumes nothing.
 use mathlib.Core.Path.{_≡_, refl, _∙_, ap}
 use mathlib.Core.Bool.{Bool, true, false, cond}
-use mathlib.Core.List.{List}
 use Prim.Native.Nat.{ℕ}
 use Rattle.settings.specs.Settings.{settings}
-use Rattle.settings.specs.declared.Settings.{Settings}
 use Rattle.layout.specs.Words.{settings-from, unfit}
 use Rattle.board.specs.Stand.{stand}
 use Rattle.board.specs.State.{pulsed}
 use Rattle.board.specs.Promises.{Wrong-kept}
 use Rattle.board.specs.declared.Board.{Board}
-use Rattle.board.specs.declared.stand.Stage.{Stage}
 use Rattle.board.specs.declared.stand.Stage.the-variants.{Running, Pulsed, Ended}
 use Rattle.board.proofs.Promises.{wrong-kept}
 use Rattle.board_calls.specs.Words.{stage-in, stage-word, senders-in, board-in, board-words, fits-in}

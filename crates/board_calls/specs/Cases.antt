@@ -1,7 +1,7 @@
 -- What the functions answer and leave at numbers, by the words of bindings/c/polzaintu.h: W, R, d, u, A, r, h, count, stamps[4], repeats, reading,
 -- stage. Each statement is proved in proofs/Cases.antt, under its name in small letters. Assumes nothing.
 use mathlib.Core.Path.{_≡_}
-use mathlib.Core.List.{List, [], _∷_, _++_}
+use mathlib.Core.List.{List, [], _∷_}
 use Prim.Native.Nat.{ℕ, _-_, _^_}
 use lib.ListN.{replicate}
 use Rattle.settings.specs.Settings.{settings}

@@ -1,8 +1,8 @@
 -- The proofs of what specs/Program.antt and specs/Promises.antt state. Assumes nothing.
-use mathlib.Core.Path.{_≡_, refl, sym, _∙_, ap}
-use mathlib.Core.Bool.{Bool, true, false, cond, _&&_}
-use mathlib.Core.List.{List, [], _∷_, _++_, append-assoc}
-use Prim.Native.Nat.{ℕ, zero, suc, _+_, _≤_, _<_}
+use mathlib.Core.Path.{_≡_, refl, _∙_, ap}
+use mathlib.Core.Bool.{Bool, true, false, cond}
+use mathlib.Core.List.{List, [], _++_, append-assoc}
+use Prim.Native.Nat.{ℕ, zero, suc, _+_, _≤_}
 use lib.Dec.{ltb, leb}
 use lib.ListN.{replicate}
 use native.Mathlib.Omega.{arith}
@@ -15,7 +15,7 @@ use Rattle.settings.proofs.Laws.Refusal.{unhit, unhit-given, inside}
 use Rattle.rule.specs.Stamp.{silence, code-of, latest-stamp}
 use Rattle.senders.specs.Senders.{neighbours, unheard-all}
 use Rattle.board.specs.Stand.{stand, told, is-running}
-use Rattle.board.specs.State.{fits, runs, pulsed, start-tests, start-refusal, fresh, started, answered, closed, closed-many, shut as shut-once, shut-many as shut-often}
+use Rattle.board.specs.State.{runs, start-tests, start-refusal, fresh, started, answered, closed, closed-many, shut as shut-once, shut-many as shut-often}
 use Rattle.board.specs.declared.Board.{Board}
 use Rattle.board.specs.declared.Started.{Started}
 use Rattle.board.specs.declared.Closed.{Closed}
@@ -32,7 +32,7 @@ use Rattle.board_runs.proofs.Laws.Events.{closes-++}
 use Rattle.board_runs.proofs.Laws.Senders.{by-count}
 use Rattle.board_runs.proofs.Laws.State.{Accepted, fits-as, pulsed-over}
 use Rattle.board_runs.proofs.Laws.Calls.{inside as stays-inside, Read-on, answer-is, after-closes, reads-on}
-use Rattle.board_runs.proofs.Laws.InTime.{On-time, begun, runs-on}
+use Rattle.board_runs.proofs.Laws.InTime.{begun, runs-on}
 
 -- what a start that is accepted leaves
 module _ (s : Settings) (n v : ℕ) (z : start-refusal s n v ≡ 0) where

@@ -1,27 +1,17 @@
 -- The proofs of what specs/Witness.antt states: the calls are computed. Assumes nothing.
-use mathlib.Core.Path.{_≡_, refl}
-use mathlib.Core.List.{List, [], _∷_}
+use mathlib.Core.Path.{refl}
 use native.Mathlib.Omega.{arith}
-use lib.ListN.{replicate}
-use Rattle.settings.specs.Settings.{settings}
-use Rattle.settings.proofs.Cases.{settings-computed}
-use Rattle.rule.specs.Signed.{natural}
-use Rattle.rule.specs.Stamp.{stamp-of, unheard-of, unheard-in, within, none, more, this, later-on}
-use Rattle.rule.specs.Pulse.{tile-P}
+use Rattle.rule.specs.Stamp.{within, none, more, this, later-on}
 use Rattle.rule.specs.Promises.{own-free, neighbour-free}
-use Rattle.rule.proofs.Cases.{rule-computed}
-use Rattle.senders.specs.Due.{due, has-P, reaches}
-use Rattle.senders.specs.Senders.{neighbours, code-at, stamp-at, own-stamp, neighbour-stamps, unheard-all, one-more, heard-by, stamp-fits, fit}
-use Rattle.board.specs.Stand.{stand, closing, told, is-running}
-use Rattle.board.specs.State.{reached, fits, runs, start-tests, start-refusal, fresh, started, hears, pulsed, at, shut as shut-once, shut-many as shut-often, answered, closed, closed-many}
-use Rattle.board.specs.Events.{close}
+use Rattle.board.specs.State.{shut as shut-once, shut-many as shut-often, closed, closed-many}
+use Rattle.board.proofs.Cases.{board-computed}
 use Rattle.board_runs.specs.Reading.{closes, first-pulse, neighbour-pulses}
 use Rattle.board_runs.specs.Program.{none as no-more, hear, shut, shut-many, events-of, all-events}
 use Rattle.board_runs.specs.Promises.{full-due}
 use Rattle.board_runs.specs.Witness.{wall, state, late-calls, Late-met, silent-calls, Silent-met, longer, far-calls, Farther-met}
 
 unfoldable computed : Unit {0}
-unfolding settings-computed rule-computed natural stamp-of unheard-of unheard-in tile-P neighbours code-at stamp-at own-stamp neighbour-stamps unheard-all one-more heard-by stamp-fits fit stand closing told is-running due has-P reaches reached fits runs start-tests start-refusal fresh started hears pulsed at shut-once shut-often answered closed closed-many closes first-pulse neighbour-pulses events-of all-events full-due wall longer state
+unfolding board-computed shut-once shut-often closed closed-many closes first-pulse neighbour-pulses events-of all-events full-due wall longer state
 computed = tt
 
 pub late-met : Late-met

@@ -20,7 +20,8 @@ use Rattle.board.specs.declared.stand.Stage.the-variants.{Running, Pulsed}
 use Rattle.board_runs.specs.Reading.{closes, first-pulse, neighbour-pulses}
 use Rattle.board_runs.specs.Program.{Call, Calls, all-events}
 
--- §E5.7 the full stamps, of each sender's first pulse in the whole list: all but one sender's are heard, by 2^41 - 1, and lie within A - 9h of each other
+-- §E5.7 the full stamps, of each sender's first pulse in the whole list: all but one sender's are heard, by 2^41 - 1, and no two of those are more than
+-- A - 9h apart
 pub record Correct (s : Settings) (count reading : ℕ) (es : List Event) : Type 0 where
   pub lo : ℕ
   pub hi : ℕ

@@ -1,6 +1,5 @@
 -- The proofs of what specs/Cases.antt states. Assumes nothing.
 use mathlib.Core.Path.{refl}
-use Rattle.settings.proofs.Cases.{settings-computed}
 use Rattle.rule.specs.Signed.{natural}
 use Rattle.rule.specs.Stamp.{stamp-of, unheard-of, unheard-in}
 use Rattle.rule.specs.Pulse.{tile-P}
@@ -9,8 +8,13 @@ use Rattle.senders.specs.Senders.{neighbours, code-at, stamp-at, own-sta
 use Rattle.senders.specs.Due.{due, has-P, reaches, due-code}
 use Rattle.senders.specs.Cases.{wall, senders, Unheard-cases, Heard-cases, Count-cases, Reaches-cases, Due-cases, Fit-cases}
 
+-- what senders are computed by, and when they are due; the crates above go on from it
+unfoldable pub senders-computed : Unit {0}
+unfolding rule-computed natural stamp-of unheard-of unheard-in tile-P neighbours code-at stamp-at own-stamp neighbour-stamps unheard unheard-all one-more heard-by stamp-fits fit due has-P reaches due-code
+senders-computed = tt
+
 unfoldable computed : Unit {0}
-unfolding settings-computed rule-computed natural stamp-of unheard-of unheard-in tile-P neighbours code-at stamp-at own-stamp neighbour-stamps unheard unheard-all one-more heard-by stamp-fits fit due has-P reaches due-code wall senders
+unfolding senders-computed wall senders
 computed = tt
 
 pub unheard-cases : Unheard-cases

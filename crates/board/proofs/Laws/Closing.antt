@@ -1,23 +1,20 @@
 -- Many closes at once are as many one by one. Assumes nothing.
 use mathlib.Core.Path.{_≡_, refl, sym, _∙_, ap}
 use mathlib.Core.Bool.{Bool, true, false, cond}
-use Prim.Native.Nat.{ℕ, zero, suc, _+_, _-_, _≤_, _<_, min, max}
-use lib.Dec.{eqb, leb}
+use Prim.Native.Nat.{ℕ, zero, suc, _+_, _-_, _≤_, _<_}
+use lib.Dec.{leb}
 use native.Mathlib.Omega.{arith}
 use borrow.Author.Tests.{le-leb, lt-leb, eq-eqb, ne-eqb}
 use Rattle.settings.proofs.Laws.Cases.{by-order, by-equal}
 use Rattle.rule.specs.Stamp.{silence}
-use Rattle.senders.specs.Due.{due, reaches, due-code}
-use Rattle.senders.specs.Senders.{last, own-stamp, neighbour-stamps, unheard}
+use Rattle.senders.specs.Due.{reaches, due-code}
+use Rattle.senders.specs.Senders.{last, unheard}
 use Rattle.board.specs.Stand.{stand, closing, is-running}
 use Rattle.board.specs.State.{reached, runs, at, shut, shut-many}
 use Rattle.board.specs.Closing.{end-of, closings, jumped}
 use Rattle.board.specs.declared.Board.{Board}
-use Rattle.senders.specs.declared.Senders.{Senders}
-use Rattle.board.specs.declared.stand.Stand.{Stand}
 use Rattle.board.specs.declared.stand.Stage.{Stage}
 use Rattle.board.specs.declared.stand.Stage.the-variants.{Running, Pulsed, Ended}
-use Rattle.settings.specs.declared.Settings.{Settings}
 use Rattle.senders.proofs.Laws.Due.{enough-heard, too-few, Sound}
 use Rattle.board.proofs.Laws.State.{runs-is, runs-at, many-over}
 

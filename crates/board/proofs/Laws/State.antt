@@ -1,17 +1,15 @@
 -- What is known of a tile that runs, and that one whose run is over stays as it is. Assumes nothing.
 use mathlib.Core.Path.{_≡_, refl, sym, ap}
-use mathlib.Core.Bool.{Bool, true, false, _&&_, and-eq-true-iff, true≢false}
+use mathlib.Core.Bool.{true, false, _&&_, and-eq-true-iff, true≢false}
 use Prim.Native.Nat.{ℕ, zero, suc, _≤_}
 use lib.Dec.{eqb, leb}
 use borrow.Author.Tests.{eqb-true, eq-eqb, leb-true, le-leb}
 use Rattle.settings.specs.Settings.{settings-refusal}
-use Rattle.settings.specs.declared.Settings.{Settings}
 use Rattle.senders.specs.Senders.{last, fit}
 use Rattle.senders.proofs.Laws.Due.{Sound}
 use Rattle.board.specs.Stand.{stand, is-running}
 use Rattle.board.specs.State.{fits, runs, at, shut, shut-many}
 use Rattle.board.specs.declared.Board.{Board}
-use Rattle.senders.specs.declared.Senders.{Senders}
 use Rattle.board.specs.declared.stand.Stage.{Stage}
 use Rattle.board.specs.declared.stand.Stage.the-variants.{Running, Pulsed, Ended}
 

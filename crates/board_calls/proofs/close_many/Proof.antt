@@ -1,5 +1,5 @@
 -- `close_many` meets its contract. Assumes nothing.
-use mathlib.Core.Path.{_≡_, sym, _∙_}
+use mathlib.Core.Path.{sym, _∙_}
 use Rattle.board_calls.specs.Answers.{close-number, many-left, many-answer}
 use borrow.Author.Needs.{needs}
 use Rattle.board_calls.proofs.close_many.Statement.{statement}

@@ -1,5 +1,5 @@
 -- `pulse` meets its contract. Assumes nothing.
-use mathlib.Core.Path.{_≡_, sym, _∙_}
+use mathlib.Core.Path.{sym, _∙_}
 use Rattle.board_calls.specs.Answers.{pulse-number, pulse-left}
 use borrow.Author.Needs.{needs}
 use Rattle.board_calls.proofs.pulse.Statement.{statement}

@@ -1,5 +1,5 @@
 -- `start` meets its contract. Assumes nothing.
-use mathlib.Core.Path.{_≡_, sym, _∙_}
+use mathlib.Core.Path.{_≡_, sym}
 use borrow.Author.Tests.{eq-eqb, ne-eqb}
 use Rattle.board.specs.State.{started}
 use Rattle.board_calls.specs.Answers.{start-number, start-left}

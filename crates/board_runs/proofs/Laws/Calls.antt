@@ -1,24 +1,18 @@
 -- Calls known by their contracts: the state that they leave is what their events leave, and so is each answer. Assumes nothing.
-use mathlib.Core.Path.{_≡_, refl, sym, _∙_, ap}
-use mathlib.Core.Bool.{Bool, true, false, cond}
+use mathlib.Core.Path.{_≡_, sym, _∙_, ap}
 use mathlib.Core.List.{List, [], _∷_, _++_, append-nil, append-assoc}
 use Prim.Native.Nat.{ℕ, _+_, _≤_}
-use lib.Dec.{ltb}
 use lib.ListN.{replicate}
 use native.Mathlib.Omega.{arith}
 use Rattle.senders.specs.Senders.{last}
 use Rattle.settings.specs.declared.Settings.{Settings}
-use Rattle.board.specs.Stand.{stand, told, is-running}
-use Rattle.board.specs.State.{runs, pulsed, shut as shut-once, shut-many as shut-often, answered, closed, closed-many}
-use Rattle.board.specs.Events.{Event, pulse, close, happens, after}
+use Rattle.board.specs.Stand.{stand, is-running}
+use Rattle.board.specs.State.{pulsed, shut as shut-once, shut-many as shut-often, answered, closed, closed-many}
+use Rattle.board.specs.Events.{Event, pulse, close, happens}
 use Rattle.board.specs.declared.Board.{Board}
-use Rattle.board.specs.declared.Heard.{Heard}
-use Rattle.board.specs.declared.Closed.{Closed}
 use Rattle.board.specs.declared.stand.Stage.{Stage}
 use Rattle.board.specs.declared.stand.Stage.the-variants.{Running, Pulsed, Ended}
-use Rattle.board.specs.declared.stand.Answer.{Answer}
-use Rattle.board.specs.declared.stand.Answer.the-variants.{Done}
-use Rattle.board_runs.specs.Reading.{closes, Run, run, run-from, run-of, board-of}
+use Rattle.board_runs.specs.Reading.{closes, Run, run, run-of, board-of}
 use Rattle.board_runs.specs.Program.{Call, Calls, none, hear, shut, shut-many, events-of, all-events, number-in, answer-in, Answered}
 use Rattle.board_runs.proofs.Laws.Run.{run-inside}
 use Rattle.board_runs.proofs.Laws.State.{Accepted, runs-as, pulse-here, pulsed-over, happens-of, after-of, many-closes}

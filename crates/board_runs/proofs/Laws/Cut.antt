@@ -1,8 +1,8 @@
 -- Stamps as they are known at a close: those that come later than its reading are silent. Assumes nothing.
 use mathlib.Core.Path.{_≡_, refl, sym, _∙_, ap}
-use mathlib.Core.List.{List, [], _∷_, map}
+use mathlib.Core.List.{List, [], _∷_}
 use mathlib.Core.Logic.{_⊎_, inl, inr}
-use Prim.Native.Nat.{ℕ, suc, _+_, _≤_, _<_, min, max}
+use Prim.Native.Nat.{ℕ, suc, _≤_, _<_, min, max}
 use lib.ListN.{length}
 use native.Mathlib.Omega.{arith}
 use Rattle.rule.specs.Stamp.{Stamp, heard, silent, earlier, later, earliest, latest, From-to, within, All, none, more, All-but-one, this, later-on, unheard-of, unheard-in}

@@ -1,10 +1,9 @@
 -- When the tile pulses, by the stamps known: not before the reading P + A of the full stamps, and at that. Assumes nothing.
-use mathlib.Core.Path.{_≡_, refl, sym, _∙_, ap}
-use mathlib.Core.Bool.{true, false, _&&_}
-use mathlib.Core.List.{List, [], _∷_}
+use mathlib.Core.Path.{_≡_, refl, sym, _∙_}
+use mathlib.Core.Bool.{true, false}
+use mathlib.Core.List.{List}
 use mathlib.Core.Logic.{_⊎_, inl, inr}
 use Prim.Native.Nat.{ℕ, _+_, _-_, _*_, _≤_, _<_}
-use lib.Dec.{leb}
 use lib.ListN.{length}
 use native.Mathlib.Omega.{arith}
 use borrow.Author.Tests.{le-leb, lt-leb}
@@ -13,12 +12,12 @@ use Rattle.settings.specs.Settings.{settings-refusal, step-of}
 use Rattle.settings.specs.declared.Settings.{Settings}
 use Rattle.settings.proofs.Laws.Cases.{by-order}
 use Rattle.settings.proofs.Laws.Settings.{limits, step-small}
-use Rattle.rule.specs.Stamp.{Stamp, heard, silent, _≼_, in-order, last, _≼*_, earliest, latest, From-to, within, All, none, more, All-but-one, unheard-of, unheard-in}
+use Rattle.rule.specs.Stamp.{Stamp, heard, silent, _≼_, in-order, _≼*_, earliest, latest, From-to, within, All, none, more, All-but-one, unheard-of, unheard-in}
 use Rattle.rule.specs.Closed.{closed-P}
 use Rattle.rule.specs.Pulse.{tile-P}
 use Rattle.rule.specs.Promises.{Tile, P-monotone, One-free, own-free, neighbour-free, Envelope}
 use Rattle.rule.proofs.Promises.{closed, p-monotone, envelope}
-use Rattle.rule.proofs.Laws.Stamp.{as-long, earliest-within, latest-within, earliest-≼-latest}
+use Rattle.rule.proofs.Laws.Stamp.{earliest-within, latest-within, earliest-≼-latest}
 use Rattle.senders.proofs.Laws.Due.{enough-heard, too-few}
 use Rattle.board_runs.proofs.Laws.Late.{own-late, most-late}
 use Rattle.board_runs.proofs.Laws.Cut.{Cut, same, late, Cut*, known, all-known, One-late, one-late, all-heard, one-unheard, late-latest, late-earliest, late-length}

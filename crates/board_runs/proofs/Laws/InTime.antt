@@ -1,20 +1,18 @@
 -- A list of events with at most one faulty sender: the run goes on to the close of the reading that is due, and pulses there. Assumes nothing.
-use mathlib.Core.Path.{_≡_, refl, sym, _∙_, ap, subst}
-use mathlib.Core.Bool.{Bool, true, false}
+use mathlib.Core.Path.{_≡_, refl, _∙_, subst}
+use mathlib.Core.Bool.{true, false}
 use mathlib.Core.List.{List, [], _∷_, _++_, map, append-nil, append-assoc}
 use Prim.Native.Nat.{ℕ, suc, _+_, _*_, _≤_, _<_}
-use lib.Dec.{eqb}
-use lib.ListN.{length, length-map}
 use native.Mathlib.Omega.{arith}
 use borrow.Author.Tests.{ne-eqb}
 use Rattle.settings.specs.declared.Settings.{Settings}
 use Rattle.settings.proofs.Laws.Cases.{by-order}
 use Rattle.settings.proofs.Laws.Settings.{limits}
-use Rattle.rule.specs.Stamp.{Stamp, heard, silent, _≼_, in-order, last, _≼*_, none, both, From-to, within, All, more, latest-stamp}
+use Rattle.rule.specs.Stamp.{Stamp, heard, silent, _≼_, in-order, last, _≼*_, none, both, From-to, within, All, more}
 use Rattle.rule.specs.Promises.{Tile, One-free, own-free, neighbour-free, Envelope}
 use Rattle.rule.proofs.Promises.{envelope}
 use Rattle.rule.proofs.Laws.Stamp.{≼-refl}
-use Rattle.senders.specs.Due.{due, reaches}
+use Rattle.senders.specs.Due.{due}
 use Rattle.senders.specs.Senders.{last as last-reading, neighbours}
 use Rattle.board.specs.Events.{Event, pulse, close}
 use Rattle.board.specs.declared.stand.Stage.the-variants.{Running, Pulsed}

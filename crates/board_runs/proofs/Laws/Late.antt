@@ -1,12 +1,10 @@
 -- A stamp that comes later than P + A does not matter: P is what it would be with silence in its place. Assumes nothing.
 --
 -- Throughout: unit h, step j (§2.4), hold A, own o, the earliest and latest neighbour l ≤ m.
-use mathlib.Core.Path.{_≡_, refl, sym, _∙_, ap}
-use mathlib.Core.List.{List, [], _∷_}
-use Prim.Native.Nat.{ℕ, _+_, _-_, _*_, _≤_, _<_, min, max}
+use mathlib.Core.Path.{_≡_}
+use Prim.Native.Nat.{ℕ, _+_, _-_, _*_, _≤_, _<_, max}
 use native.Mathlib.Omega.{arith}
 use Rattle.settings.proofs.Laws.Cases.{by-order}
-use Rattle.rule.specs.Stamp.{Stamp, heard, silent, earlier, later, earliest, latest, From-to, within, All, none, more, All-but-one, this, later-on, unheard-of, unheard-in}
 use Rattle.rule.specs.Closed.{middle, heard-P}
 use Rattle.rule.proofs.Laws.Heard.{waits, decides, hurries}
 use Rattle.rule.proofs.Laws.Middle.{lift-half, middle-within}

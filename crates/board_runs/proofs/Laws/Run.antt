@@ -1,18 +1,15 @@
 -- A run and what follows it: once it is over, nothing counts. Assumes nothing.
-use mathlib.Core.Path.{_≡_, refl, sym, _∙_, ap}
+use mathlib.Core.Path.{_≡_, refl}
 use mathlib.Core.Bool.{Bool, true, false, cond}
 use mathlib.Core.List.{List, [], _∷_, _++_}
-use Prim.Native.Nat.{ℕ, suc, _+_, _≤_, _<_}
-use lib.Dec.{eqb}
+use Prim.Native.Nat.{ℕ, _+_, _≤_, _<_}
 use native.Mathlib.Omega.{arith}
 use borrow.Author.Tests.{eqb-false}
 use Rattle.senders.specs.Senders.{last}
 use Rattle.settings.specs.declared.Settings.{Settings}
 use Rattle.board.specs.Events.{Event, pulse, close}
 use Rattle.board.specs.Stand.{is-running}
-use Rattle.board.specs.declared.stand.Stage.{Stage}
-use Rattle.board.specs.declared.stand.Stage.the-variants.{Running, Pulsed, Ended}
-use Rattle.board_runs.specs.Reading.{closes, pulses-after, last-after, Run, run, unless-over, run-from, run-of}
+use Rattle.board_runs.specs.Reading.{closes, pulses-after, last-after, Run, run, unless-over, run-from}
 use Rattle.board_runs.proofs.Laws.Events.{closes-++}
 
 module _ (s : Settings) (n v : ℕ) where

@@ -1,9 +1,8 @@
 -- What is known of the senders, by the events: an event more is what `heard-by` makes of it. Assumes nothing.
 use mathlib.Core.Path.{_≡_, refl, sym, _∙_, ap}
-use mathlib.Core.Bool.{Bool, true, false, cond}
+use mathlib.Core.Bool.{true}
 use mathlib.Core.List.{List, [], _∷_, _++_, map}
 use Prim.Native.Nat.{ℕ, zero, suc, _+_, _≤_, _<_, min}
-use lib.Dec.{eqb, leb}
 use lib.ListN.{getD, set}
 use native.Mathlib.Omega.{arith}
 use borrow.Author.Tests.{eq-eqb, ne-eqb, le-leb, lt-leb}
@@ -11,11 +10,10 @@ use Rattle.settings.proofs.Laws.Cases.{by-order, by-equal}
 use Rattle.rule.specs.Stamp.{Stamp, heard, silent, silence, stamp-of, code-of}
 use Rattle.rule.proofs.Laws.Stamp.{By, heard-by as by, unheard}
 use Rattle.rule.proofs.Laws.Coded.{code-stamp}
-use Rattle.senders.specs.Senders.{last, neighbours, code-at, stamp-at, own-stamp, neighbour-stamps, repeats-most, one-more, heard-by, stamp-fits, fit}
+use Rattle.senders.specs.Senders.{last, neighbours, code-at, stamp-at, neighbour-stamps, repeats-most, one-more, heard-by, stamp-fits, fit}
 use Rattle.board.specs.Events.{Event, pulse, close}
-use Rattle.senders.specs.declared.Senders.{Senders}
 use Rattle.board_runs.specs.Reading.{closes, first-pulse, neighbour-pulses, repeats-of, total, repeats-in, code-in, senders-of}
-use Rattle.board_runs.proofs.Laws.Events.{Between, first-between, first-new, first-kept, first-other, first-closed, repeats-new, repeats-more, repeats-other, repeats-closed}
+use Rattle.board_runs.proofs.Laws.Events.{first-between, first-new, first-kept, first-other, first-closed, repeats-new, repeats-more, repeats-other, repeats-closed}
 
 -- numbers at four places
 abbrev four : (ℕ → ℕ) → List ℕ

@@ -3,7 +3,7 @@ use mathlib.Core.Path.{_≡_, refl, sym, _∙_, ap}
 use mathlib.Core.Bool.{Bool, true, false, cond}
 use mathlib.Core.List.{List, [], _∷_, _++_, append-nil, append-assoc}
 use Prim.Native.Nat.{ℕ, zero, suc, _+_, _≤_, _<_}
-use lib.Dec.{eqb, leb, ltb}
+use lib.Dec.{ltb}
 use lib.ListN.{replicate}
 use native.Mathlib.Omega.{arith}
 use borrow.Author.Tests.{eq-eqb, le-leb, lt-ltb, le-ltb}
@@ -11,8 +11,7 @@ use Rattle.settings.specs.Settings.{settings-refusal}
 use Rattle.settings.specs.declared.Settings.{Settings}
 use Rattle.settings.proofs.Laws.Cases.{by-order}
 use Rattle.rule.specs.Stamp.{Stamp, heard, silent}
-use Rattle.senders.specs.Due.{reaches}
-use Rattle.senders.specs.Senders.{last, own-stamp, fit, heard-by}
+use Rattle.senders.specs.Senders.{last, own-stamp, heard-by}
 use Rattle.board.specs.Stand.{stand, closing, is-running}
 use Rattle.board.specs.State.{reached, fits, runs, hears, pulsed, at, shut, shut-many, answered, closed}
 use Rattle.board.specs.Events.{Event, pulse, close, happens, after}

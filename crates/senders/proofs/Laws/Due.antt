@@ -1,5 +1,5 @@
 -- What the rule asks of senders that fit, and what it gives for them. Assumes nothing.
-use mathlib.Core.Path.{_≡_, sym, _∙_}
+use mathlib.Core.Path.{_≡_}
 use mathlib.Core.Bool.{true, false}
 use mathlib.Core.List.{[], _∷_}
 use Prim.Native.Nat.{ℕ, _+_, _≤_}
@@ -16,7 +16,7 @@ use Rattle.rule.specs.Promises.{Tile}
 use Rattle.rule.proofs.Promises.{closed}
 use Rattle.rule.proofs.Laws.Coded.{code-stamp as stamp-code, forwardable, P-small}
 use Rattle.rule.proofs.Laws.Stamp.{By, earliest-by, latest-by, earliest-≼-latest}
-use Rattle.rule.proofs.Laws.Forward.{Enough, enough}
+use Rattle.rule.proofs.Laws.Forward.{enough}
 use Rattle.senders.specs.Senders.{last, code-at, stamp-at, own-stamp, neighbour-stamps, unheard, fit}
 use Rattle.senders.specs.Due.{due, has-P, due-code}
 use Rattle.senders.specs.declared.Senders.{Senders}

@@ -1,12 +1,12 @@
 -- Senders that fit: two neighbours or three, each stamp silence or a reading, as numbers and as stamps. Assumes nothing.
-use mathlib.Core.Path.{_≡_, refl, sym}
-use mathlib.Core.Bool.{Bool, true, false, _&&_, _||_, and-eq-true-iff}
-use mathlib.Core.List.{List, [], _∷_}
+use mathlib.Core.Path.{_≡_, sym}
+use mathlib.Core.Bool.{true, _&&_, and-eq-true-iff}
+use mathlib.Core.List.{[], _∷_}
 use mathlib.Core.Logic.{_⊎_, inl, inr}
 use Prim.Native.Nat.{ℕ, _+_, _≤_, min, max}
-use lib.Dec.{eqb, leb}
+use lib.Dec.{leb}
 use native.Mathlib.Omega.{arith}
-use borrow.Author.Tests.{leb-true, eqb-true, eq-eqb, ne-eqb}
+use borrow.Author.Tests.{leb-true, ne-eqb}
 use Rattle.rule.specs.Stamp.{Stamp, heard, silent, silence, stamp-of, code-of, earliest, latest, unheard-of, unheard-in}
 use Rattle.rule.proofs.Laws.Coded.{stamp-silent, stamp-heard, silent-or-not, earliest-two, earliest-three, latest-two, latest-three}
 use Rattle.rule.proofs.Laws.Stamp.{By, heard-by, unheard as unheard-by}

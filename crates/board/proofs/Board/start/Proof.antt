@@ -1,5 +1,5 @@
 -- `start` meets its contract. Assumes nothing.
-use mathlib.Core.Path.{_≡_, sym, _∙_}
+use mathlib.Core.Path.{sym, _∙_}
 use borrow.Author.Tests.{eq-eqb, ne-eqb}
 use Rattle.board.specs.Stand.{stand}
 use Rattle.board.specs.State.{start-refusal, fresh, started}

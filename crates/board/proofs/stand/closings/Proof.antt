@@ -1,11 +1,8 @@
 -- `closings` meets its contract. Assumes nothing.
-use mathlib.Core.Path.{_≡_, sym, _∙_, ap}
-use Prim.Native.Nat.{ℕ, _+_, _≤_}
+use mathlib.Core.Path.{_≡_, sym}
 use native.Mathlib.Omega.{arith}
-use Rattle.senders.specs.Senders.{last}
 use Rattle.board.specs.Stand.{stand}
 use Rattle.board.specs.Closing.{end-of}
-use Rattle.board.specs.declared.stand.Stage.the-variants.{Running, Pulsed, Ended}
 use Rattle.board.proofs.Laws.Closing.{waits, pulses, ends}
 use borrow.Author.Needs.{needs}
 use Rattle.board.proofs.stand.closings.Statement.{statement}
