@@ -2,11 +2,23 @@
 -- What is promised of lists of calls stands in crate board_runs. Assumes nothing.
 use mathlib.Core.Path.{_≡_}
 use mathlib.Core.Bool.{false}
-use Prim.Native.Nat.{ℕ}
-use Rattle.board.specs.State.{runs, pulsed, shut-many, closed, closed-many}
+use mathlib.Core.Logic.{_↔_}
+use Prim.Native.Nat.{ℕ, _≤_}
+use Rattle.settings.specs.Limits.{Limits}
+use Rattle.settings.specs.declared.Settings.{Settings}
+use Rattle.rule.specs.Stamp.{latest-stamp}
+use Rattle.board.specs.State.{runs, started, pulsed, shut-many, closed, closed-many}
 use Rattle.board.specs.Closing.{jumped}
 use Rattle.board.specs.declared.Board.{Board}
 use Rattle.board.specs.declared.stand.Answer.the-variants.{Done}
+
+-- §E5.1 a start is accepted exactly where the settings keep their limits, there are two neighbours or three, and the reading is at most 2^41 - 1
+unfoldable pub Start-plain : Type 0
+Start-plain = (s : Settings) (n v : ℕ) → (Limits s × (2 ≤ n) × (n ≤ 3) × (v ≤ latest-stamp)) ↔ (started s n v .number ≡ 0)
+
+-- §E5.1 one that is turned away leaves a tile that ignores everything, as `Over-ignores` says
+unfoldable pub Refused-over : Type 0
+Refused-over = (s : Settings) (n v : ℕ) → (started s n v .number ≡ 0 → ⊥) → runs (started s n v .board) ≡ false
 
 -- §E5.2 54 keeps the state
 unfoldable pub Wrong-kept : Type 0
