@@ -6,7 +6,7 @@ use Rattle.settings.specs.declared.Settings.{Settings}
 use Rattle.senders.proofs.Cases.{senders-computed}
 use Rattle.senders.specs.Senders.{last}
 use Rattle.board.specs.Stand.{stand, closing, told, is-running}
-use Rattle.board.specs.State.{reached, fits, runs, start-tests, start-refusal, fresh, started, hears, pulsed, at, shut, shut-many, answered, closed, closed-many}
+use Rattle.board.specs.State.{looked-at, reached, fits, runs, start-tests, start-refusal, fresh, started, hears, pulsed, at, shut, shut-many, answered, closed, closed-many}
 use Rattle.board.specs.Closing.{end-of, closings, jumped}
 use Rattle.board.specs.Cases.{wall, drifting, Start-cases, state, Fresh-case, Arrival, _at_, arrives, arrive, Pulses-at, In-each, Tile-cases, Three-cases, Late-start-case, Unheard-cases, Repeat-cases, repeated, Count-cases, Sender-cases, Over-cases, late, Last-cases}
 use Rattle.board.specs.declared.Board.{Board}
@@ -15,7 +15,7 @@ use Rattle.board.proofs.Laws.Closing.{jumps}
 
 -- what a state is computed by; the crates above go on from it
 unfoldable pub board-computed : Unit {0}
-unfolding senders-computed stand closing told is-running reached fits runs start-tests start-refusal fresh started hears pulsed at answered
+unfolding senders-computed stand closing told is-running looked-at reached fits runs start-tests start-refusal fresh started hears pulsed at answered
 board-computed = tt
 
 -- with many closes at once

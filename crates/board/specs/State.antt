@@ -18,9 +18,13 @@ use Rattle.board.specs.declared.stand.Stand.{Stand}
 use Rattle.board.specs.declared.stand.Stage.the-variants.{Running, Ended}
 use Rattle.board.specs.declared.stand.Answer.the-variants.{Done}
 
--- §E5.3 a tile's open reading has come to P + A, the unheard being silent
+-- §E5.3 the reading that a close looks at: the one that it closes
+unfoldable pub looked-at : Board → ℕ
+looked-at b = b .stand .reading
+
+-- §E5.3 that reading has come to P + A, the unheard being silent
 unfoldable pub reached : Board → Bool
-reached b = reaches (b .settings) (own-stamp (b .senders)) (neighbour-stamps (b .senders)) (b .stand .reading)
+reached b = reaches (b .settings) (own-stamp (b .senders)) (neighbour-stamps (b .senders)) (looked-at b)
 
 -- §E5.9 a state that a start and calls may have left: checked settings, senders that fit, a reading that opens
 unfoldable pub fits : Board → Bool

@@ -10,7 +10,7 @@ use Rattle.rule.specs.Stamp.{silence}
 use Rattle.senders.specs.Due.{reaches, due-code}
 use Rattle.senders.specs.Senders.{last, unheard}
 use Rattle.board.specs.Stand.{stand, closing, is-running}
-use Rattle.board.specs.State.{reached, runs, at, shut, shut-many}
+use Rattle.board.specs.State.{looked-at, reached, runs, at, shut, shut-many}
 use Rattle.board.specs.Closing.{end-of, closings, jumped}
 use Rattle.board.specs.declared.Board.{Board}
 use Rattle.board.specs.declared.stand.Stage.{Stage}
@@ -65,13 +65,17 @@ module _ (d v : ℕ) (i₀ : v ≤ last) where
       (λ q. pulses d v (suc n) p q ∙ ap (λ (m : ℕ). stand m Pulsed) e ∙ sym (pulses d (suc v) n (omega arith) (omega arith)))
       (λ q. ends d v (suc n) p q ∙ ap (λ (m : ℕ). stand m Ended) e ∙ sym (ends d (suc v) n (omega arith) (omega arith))))
 
+pub looks-at : (b : Board) → looked-at b ≡ b .stand .reading
+unfolding looked-at
+looks-at b = omega arith
+
 -- P + A is reached where the code's number is
 pub reached-code : (b : Board) → b .stand .reading ≤ last → reached b ≡ leb (due-code (b .settings) (b .senders)) (b .stand .reading)
 unfolding reached reaches due-code unheard
 reached-code b i =
     let x = b .senders in
     by-order (unheard x) 1
-    (λ k. rw (enough-heard (unheard x) k))
+    (λ k. rw (looks-at b, enough-heard (unheard x) k))
     (λ k. rw (too-few (unheard x) k, lt-leb silence (b .stand .reading) (omega arith)))
 
 -- one close, by the code's number

@@ -13,7 +13,7 @@ use Rattle.settings.proofs.Laws.Cases.{by-order}
 use Rattle.rule.specs.Stamp.{Stamp, heard, silent}
 use Rattle.senders.specs.Senders.{last, own-stamp, heard-by}
 use Rattle.board.specs.Stand.{stand, closing, is-running}
-use Rattle.board.specs.State.{reached, fits, runs, hears, pulsed, at, shut, shut-many, answered, closed}
+use Rattle.board.specs.State.{looked-at, reached, fits, runs, hears, pulsed, at, shut, shut-many, answered, closed}
 use Rattle.board.specs.Events.{Event, pulse, close, happens, after}
 use Rattle.board.specs.declared.Board.{Board}
 use Rattle.board.specs.declared.stand.Stage.{Stage}
@@ -58,7 +58,7 @@ module _ {s : Settings} {n v : ℕ} (a : Accepted s n v) where
     runs-here = fits-as (run es Running) small
 
     reached-here : reached here ≡ pulses-after s n v es
-    unfolding reached board-of run stand own-stamp pulses-after
+    unfolding reached looked-at board-of run stand own-stamp pulses-after
     reached-here = rw (stamp-is n v (a .two) (a .three) es small 0 (omega arith), neighbours-are n v (a .two) (a .three) es small)
 
     -- a pulse
