@@ -1,22 +1,13 @@
 //! Runs of a tile (§E5.3): at which close it pulses, from its senders' stamps.
 
 use wall_reference::board::{Answer, Board};
+use wall_reference::cases::build::PRINTED;
 use wall_reference::generate::rng::Rng;
 use wall_reference::rule::forward;
 use wall_reference::settings::{Numbers, Settings};
 use wall_reference::Tick;
 
-/// The settings of the wall that is printed whole (§14.4): J is 24.
-const PRINTED: Numbers = Numbers {
-    columns: 6,
-    rows: 1,
-    delay: 100,
-    uncertainty: 10,
-    hold: 400,
-    drift_limit: 0,
-    unit: 12,
-};
-
+/// J is 24.
 fn settings() -> Settings {
     Settings::new(PRINTED).unwrap()
 }

@@ -22,7 +22,7 @@ use Rattle.board.proofs.Laws.Closing.{jumps}
 
 -- the number of a start
 module _ (s : Settings) (n v : ℕ) where
-  number-is : started s n v .number ≡ start-refusal s n v
+  pub number-is : started s n v .number ≡ start-refusal s n v
   unfolding started
   number-is = by-zero (start-refusal s n v)
       (λ z. rw (eq-eqb (start-refusal s n v) 0 z) (sym z))

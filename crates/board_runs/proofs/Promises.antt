@@ -1,21 +1,17 @@
 -- The proofs of what specs/Program.antt and specs/Promises.antt state. Assumes nothing.
-use mathlib.Core.Path.{_≡_, refl, _∙_, ap}
+use mathlib.Core.Path.{_≡_, refl, sym, _∙_, ap}
 use mathlib.Core.Bool.{Bool, true, false, cond}
 use mathlib.Core.List.{List, [], _++_, append-assoc}
 use Prim.Native.Nat.{ℕ, zero, suc, _+_, _≤_}
-use lib.Dec.{ltb, leb}
+use lib.Dec.{leb}
 use lib.ListN.{replicate}
 use native.Mathlib.Omega.{arith}
-use borrow.Author.Tests.{eq-eqb, ne-eqb, ltb-false}
-use Rattle.settings.specs.Refusal.{outside}
-use Rattle.settings.specs.Settings.{settings-refusal}
+use borrow.Author.Tests.{eq-eqb}
 use Rattle.settings.specs.declared.Settings.{Settings}
-use Rattle.settings.proofs.Laws.Cases.{by-zero}
-use Rattle.settings.proofs.Laws.Refusal.{unhit, unhit-given, inside}
-use Rattle.rule.specs.Stamp.{silence, code-of, latest-stamp}
+use Rattle.rule.specs.Stamp.{silence, code-of}
 use Rattle.senders.specs.Senders.{neighbours, unheard-all}
 use Rattle.board.specs.Stand.{stand, told, is-running}
-use Rattle.board.specs.State.{runs, start-tests, start-refusal, fresh, started, answered, closed, closed-many, shut as shut-once, shut-many as shut-often}
+use Rattle.board.specs.State.{runs, start-refusal, fresh, started, answered, closed, closed-many, shut as shut-once, shut-many as shut-often}
 use Rattle.board.specs.declared.Board.{Board}
 use Rattle.board.specs.declared.Started.{Started}
 use Rattle.board.specs.declared.Closed.{Closed}
@@ -25,6 +21,10 @@ use Rattle.board.specs.declared.stand.Stage.the-variants as stage
 use Rattle.board.specs.declared.stand.Answer.{Answer}
 use Rattle.board.specs.declared.stand.Answer.the-variants as answer
 use Rattle.board.proofs.Laws.State.{shut-over, many-over}
+use Rattle.settings.specs.Limits.{Settings-plain}
+use Rattle.settings.proofs.Limits.{settings-plain}
+use Rattle.board.specs.Promises.{Start-plain}
+use Rattle.board.proofs.Promises.{number-is, start-plain}
 use Rattle.board_runs.specs.Reading.{closes, first-pulse, pulses-of, repeats-of, total, repeats-in, code-in, senders-of, Run, run, run-from, run-of, board-of}
 use Rattle.board_runs.specs.Program.{Call, Calls, none, hear, shut, shut-many, all-events, answer-in, Calls-read, Calls-fit, pulsed-once, times-pulsed, Pulses-once}
 use Rattle.board_runs.specs.Promises.{full-due, Pulses-in-time, Told-in-time}
@@ -37,13 +37,10 @@ use Rattle.board_runs.proofs.Laws.InTime.{begun, runs-on}
 -- what a start that is accepted leaves
 module _ (s : Settings) (n v : ℕ) (z : start-refusal s n v ≡ 0) where
   accepts : Accepted s n v
-  unfolding start-refusal start-tests
+  unfolding Start-plain Settings-plain
   accepts =
-      let t1 = unhit-given (settings-refusal s) _ z in
-      let t2 = unhit 10 (outside 2 3 n) _ (t1 .1) in
-      let t3 = unhit 11 (ltb latest-stamp v) _ (t2 .1) in
-      let k = inside 2 3 n (t2 .0) in
-      record { checked = t1 .0; two = k .0; three = k .1; early = omega (arith, ltb-false latest-stamp v (t3 .0)) }
+      let (l, i, k, m) = start-plain s n v .1 (number-is s n v ∙ z) in
+      record { checked = settings-plain s .0 l; two = i; three = k; early = omega (arith, m) }
 
   silent-at : (k : ℕ) → code-in n v [] k ≡ silence
   unfolding code-in code-of first-pulse
@@ -65,10 +62,7 @@ module _ (s : Settings) (n v : ℕ) (z : start-refusal s n v ≡ 0) where
 
 module _ (s : Settings) (n v : ℕ) (r : Started) (e : r ≡ started s n v) (z : r .number ≡ 0) where
   not-refused : start-refusal s n v ≡ 0
-  unfolding started
-  not-refused =
-      by-zero (start-refusal s n v) (λ q. q)
-      (λ q. let never : start-refusal s n v ≡ 0 = rw (e, ne-eqb (start-refusal s n v) 0 q) at z in absurd (q never))
+  not-refused = sym (number-is s n v) ∙ ap (λ (x : Started). x .number) (sym e) ∙ z
 
   left-open : r .board ≡ fresh s n (stand v stage.Running)
   unfolding started

@@ -1,7 +1,7 @@
 //! Named wall files, the same each time, for a program to be run on: every number that a file can be
 //! refused with, each place where a file can end, the limits, faults at the edges, and every letter.
 
-pub(crate) mod build;
+pub mod build;
 mod contents;
 mod faults;
 mod framing;

@@ -32,7 +32,7 @@ module _ (d v n : ℕ) where
   unfolding closings
   ends i k = rw (lt-leb n (end-of d v - v) i, lt-leb d (end-of d v) k)
 
-module _ (d v : ℕ) (i₀ : v ≤ last) where
+module _ (d v : ℕ) (inside : v ≤ last) where
   -- where the run ends: at once, at the last reading, or where it ends from the next reading
   end-now : d ≤ v → end-of d v ≡ v
   unfolding end-of
@@ -65,12 +65,13 @@ module _ (d v : ℕ) (i₀ : v ≤ last) where
       (λ q. pulses d v (suc n) p q ∙ ap (λ (m : ℕ). stand m Pulsed) e ∙ sym (pulses d (suc v) n (omega arith) (omega arith)))
       (λ q. ends d v (suc n) p q ∙ ap (λ (m : ℕ). stand m Ended) e ∙ sym (ends d (suc v) n (omega arith) (omega arith))))
 
-pub looks-at : (b : Board) → looked-at b ≡ b .stand .reading
+-- a close looks at the open reading
+looks-at : (b : Board) → looked-at b ≡ b .stand .reading
 unfolding looked-at
 looks-at b = omega arith
 
 -- P + A is reached where the code's number is
-pub reached-code : (b : Board) → b .stand .reading ≤ last → reached b ≡ leb (due-code (b .settings) (b .senders)) (b .stand .reading)
+reached-code : (b : Board) → b .stand .reading ≤ last → reached b ≡ leb (due-code (b .settings) (b .senders)) (b .stand .reading)
 unfolding reached reaches due-code unheard
 reached-code b i =
     let x = b .senders in
@@ -83,7 +84,7 @@ module _ (b : Board) (v : ℕ) (s : Sound (b .settings) (b .senders)) (i : v ≤
   abbrev number : ℕ
   number = due-code (b .settings) (b .senders)
 
-  pub shut-is : shut (at b (stand v Running)) ≡ at b (closing (leb number v) v)
+  shut-is : shut (at b (stand v Running)) ≡ at b (closing (leb number v) v)
   unfolding shut at stand
   shut-is = rw (runs-at b v s i, reached-code (at b (stand v Running)) i)
 
@@ -108,7 +109,7 @@ unfolding runs at stand is-running
 over-ended b v = refl
 
 -- many closes are one close, one by one
-pub many-are : (n : ℕ) (b : Board) (v : ℕ) → Sound (b .settings) (b .senders) → v ≤ last →
+many-are : (n : ℕ) (b : Board) (v : ℕ) → Sound (b .settings) (b .senders) → v ≤ last →
     shut-many n (at b (stand v Running)) ≡ at b (closings (due-code (b .settings) (b .senders)) v n)
 unfolding shut-many
 many-are zero b v s i = ap (at b) (sym (none (due-code (b .settings) (b .senders)) v i))

@@ -18,6 +18,7 @@ use Rattle.rule.specs.Pulse.{tile-P}
 use Rattle.rule.specs.Promises.{Tile, P-monotone, One-free, own-free, neighbour-free, Envelope}
 use Rattle.rule.proofs.Promises.{closed, p-monotone, envelope}
 use Rattle.rule.proofs.Laws.Stamp.{earliest-within, latest-within, earliest-≼-latest}
+use Rattle.senders.proofs.Laws.Senders.{unheard-one}
 use Rattle.senders.proofs.Laws.Due.{enough-heard, too-few}
 use Rattle.board_runs.proofs.Laws.Late.{own-late, most-late}
 use Rattle.board_runs.proofs.Laws.Cut.{Cut, same, late, Cut*, known, all-known, One-late, one-late, all-heard, one-unheard, late-latest, late-earliest, late-length}
@@ -61,11 +62,6 @@ module _ (s : Settings) (checked : settings-refusal s ≡ 0) where
   unfolding closed-P
   neighbour-silent o l z i near k = sym (most-late (limits s checked .unit .0) (step-of s) (s .hold) o i near k)
 
-at-most-one : (x : Stamp) → unheard-of x ≤ 1
-unfolding unheard-of
-at-most-one (heard a) = omega arith
-at-most-one silent = omega arith
-
 -- so the reading that is due is reached, by what is known there
 module _ {s : Settings} {ns : List Stamp} (t : Tile s ns) where
   reached-by : (own own′ : Stamp) (ns′ : List Stamp) → unheard-of own′ + unheard-in ns′ ≤ 1 → tile-P s own′ ns′ ≡ tile-P s own ns → reaches s own′ ns′ (due s own ns) ≡ true
@@ -75,12 +71,12 @@ module _ {s : Settings} {ns : List Stamp} (t : Tile s ns) where
 
   -- whatever own is
   own-reaches : {lo hi : ℕ} (own : Stamp) → All (From-to lo hi) ns → reaches s own ns (due s own ns) ≡ true
-  own-reaches own q = reached-by own own ns (omega (arith, at-most-one own, all-heard q)) refl
+  own-reaches own q = reached-by own own ns (omega (arith, unheard-one own, all-heard q)) refl
 
   late-reaches : {lo hi : ℕ} (a : ℕ) → All (From-to lo hi) ns → due s (heard a) ns < a → reaches s silent ns (due s (heard a) ns) ≡ true
   unfolding due
   late-reaches a q k =
-      reached-by (heard a) silent ns (omega (arith, at-most-one silent, all-heard q))
+      reached-by (heard a) silent ns (omega (arith, unheard-one silent, all-heard q))
       (closed silent t ∙ own-beside s (t .checked) a (t .two) q (omega (arith, k, closed (heard a) t)) ∙ sym (closed (heard a) t))
 
   with-own : {lo hi x : ℕ} (own own′ : Stamp) → All (From-to lo hi) ns → x ≡ due s own ns → Cut x own′ own → reaches s own′ ns x ≡ true

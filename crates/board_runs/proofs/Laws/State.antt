@@ -18,7 +18,10 @@ use Rattle.board.specs.Events.{Event, pulse, close, happens, after}
 use Rattle.board.specs.declared.Board.{Board}
 use Rattle.board.specs.declared.stand.Stage.{Stage}
 use Rattle.board.specs.declared.stand.Stage.the-variants.{Running, Pulsed, Ended}
+use Rattle.board.specs.Promises.{Over-ignores}
+use Rattle.board.specs.declared.Heard.{Heard}
 use Rattle.board.proofs.Laws.State.{shut-over}
+use Rattle.board.proofs.Promises.{over-ignores}
 use Rattle.board_runs.specs.Reading.{closes, first-pulse, pulses-after, last-after, Run, run, unless-over, run-from, run-of, senders-of, board-of}
 use Rattle.board_runs.proofs.Laws.Events.{closes-++}
 use Rattle.board_runs.proofs.Laws.Run.{continue, run-++, run-inside}
@@ -33,8 +36,8 @@ pub record Accepted (s : Settings) (n v : ℕ) : Type 0 where
 
 -- a tile whose run is over stays
 pub pulsed-over : (b : Board) (k : ℕ) → runs b ≡ false → (pulsed b k .board ≡ b) × (pulsed b k .number ≡ 0)
-unfolding pulsed
-pulsed-over b k e = (rw e, rw e)
+unfolding Over-ignores
+pulsed-over b k e = let o = over-ignores b e .0 k in (ap (λ (r : Heard). r .board) o, ap (λ (r : Heard). r .number) o)
 
 happens-over : (b : Board) → runs b ≡ false → (e : Event) → happens b e ≡ b
 unfolding happens closed answered

@@ -1,12 +1,9 @@
 -- `close_many` meets its contract. Assumes nothing.
-use mathlib.Core.Path.{_≡_, sym, _∙_, ap}
-use Rattle.senders.specs.Due.{due-code}
-use Rattle.board.specs.Stand.{stand}
-use Rattle.board.specs.State.{at, shut-many, answered, closed-many}
-use Rattle.board.specs.Closing.{closings}
-use Rattle.board.specs.declared.stand.Stage.{Stage}
+use mathlib.Core.Path.{sym, _∙_}
+use Rattle.board.specs.State.{at, answered, closed-many}
+use Rattle.board.specs.Closing.{jumped}
 use Rattle.board.proofs.Laws.State.{Runs, runs-is, many-over}
-use Rattle.board.proofs.Laws.Closing.{many-are}
+use Rattle.board.proofs.Laws.Closing.{jumps}
 use borrow.Author.Needs.{needs}
 use Rattle.board.proofs.Board.close_many.Statement.{statement}
 use Rattle.board.proofs.Board.close_many.Tie as tie
@@ -27,17 +24,14 @@ told-requires : tie.Need-told-requires
 told-requires c κs = search needs
 
 returns : tie.Need-returns
-unfolding closed-many answered at stand
+unfolding closed-many answered jumped at
 returns c =
     let l = c .before in
     let d = l .before in
     let t = d .before .before .before in
-    let b = t .before .before .args .self in
+    let a = t .before .before .args in
     let e = sym (t .before .runs .ensures) ∙ t .if1 .taken in
-    let k = runs-is b e in
-    let m : shut-many (t .before .before .args .n) b ≡ at b (closings (due-code (b .settings) (b .senders)) (b .stand .reading) (t .before .before .args .n)) =
-    ap (λ (s : Stage). shut-many (t .before .before .args .n) (at b (stand (b .stand .reading) s))) (k .running) ∙ many-are (t .before .before .args .n) b (b .stand .reading) (k .sound) (k .opened) in
-    rw (e, m, c .told .ensures, l .closings .ensures, d .due .ensures)
+    rw (jumps (a .n) (a .self), e, c .told .ensures, l .closings .ensures, d .due .ensures)
 
 returns-2 : tie.Need-returns-2
 unfolding closed-many answered
