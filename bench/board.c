@@ -22,6 +22,9 @@ int main(int words, char **word) {
         other += polzaintu_board_close(&board, &answer) != 0 || answer != POLZAINTU_WAITS;
     for (uint64_t i = 0; i < many; i++)
         other += polzaintu_board_close_many(&board, 100, &answer) != 0 || answer != POLZAINTU_WAITS;
-    printf("%llu %llu %u\n", (unsigned long long)board.reading, (unsigned long long)board.repeats, other);
+    printf("%llu", (unsigned long long)board.reading);
+    for (size_t place = 0; place < 4; place++)
+        printf(" %llu", (unsigned long long)board.repeats[place]);
+    printf(" %u\n", other);
     return other != 0;
 }

@@ -45,7 +45,7 @@ extern "C" {
 
 /* The version of this header; polzaintu_version answers that of the archive. */
 #define POLZAINTU_VERSION_MAJOR 0
-#define POLZAINTU_VERSION_MINOR 6
+#define POLZAINTU_VERSION_MINOR 7
 #define POLZAINTU_VERSION_PATCH 0
 
 /* The version as one number, which grows from version to version. */
@@ -343,7 +343,7 @@ POLZAINTU_ANSWER uint32_t polzaintu_waves_ask(const polzaintu_waves *waves,
                                               polzaintu_half_ticks *half_ticks,
                                               polzaintu_half_gaps *half_gaps);
 
-/* ---- The tile as it runs: §E5.1 to §E5.9 ----
+/* ---- The tile as it runs: §E5.1 to §E5.9, §E6.1 to §E6.4 ----
  *
  * A tile event by event, on its own clock: its senders' pulses come in at the open reading, until
  * that is closed. Then the tile pulses, and its run is over, or the next reading opens. */
@@ -366,13 +366,13 @@ enum {
  * itself. */
 typedef struct {
     polzaintu_settings settings;
-    uint64_t count;     /* how many neighbours there are: 2 or 3 */
-    uint64_t stamps[4]; /* of own, then of each neighbour, the reading at which it was first heard:
-                           0 to 2^42 - 1, or POLZAINTU_SILENT; a place past the count stays so */
-    uint64_t repeats;   /* the pulses that were not the first of their sender: 0 to 65,535, where
-                           it stays */
-    uint64_t reading;   /* the open reading, or the one whose close ended the run: 0 to 2^42 - 1 */
-    uint64_t stage;     /* one of the three above */
+    uint64_t count;      /* how many neighbours there are: 2 or 3 */
+    uint64_t stamps[4];  /* of own, then of each neighbour, the reading at which it was first heard:
+                            0 to 2^42 - 1, or POLZAINTU_SILENT; a place past the count stays so */
+    uint64_t repeats[4]; /* of own, then of each neighbour, the pulses after its first: 0 to 65,535,
+                            where it stays; a place past the count stays 0 */
+    uint64_t reading;    /* the open reading, or the one whose close ended the run: 0 to 2^42 - 1 */
+    uint64_t stage;      /* one of the three above */
 } polzaintu_board;
 
 /* Begins with nothing heard, at a first reading of 0 to 2^41 - 1; count is how many neighbours
@@ -384,7 +384,7 @@ POLZAINTU_ANSWER uint32_t polzaintu_board_start(const polzaintu_settings *settin
 
 /* A pulse comes in at the open reading; the sender is 0 for own, 1 to the count for a neighbour.
  * Writes the board: the sender's first pulse is its stamp, any other is a repeat and only counted
- * as one. Once the run is over every pulse is ignored, whoever sends it.
+ * as one of that sender. Once the run is over every pulse is ignored, whoever sends it.
  *
  * Answers 0; POLZAINTU_UNFIT where *board was never started: a stage over 2, settings that don't
  * pass, a count other than 2 or 3, a stamp that is neither POLZAINTU_SILENT nor at most 2^42 - 1,
@@ -548,7 +548,7 @@ static_assert(sizeof(polzaintu_pair) == 2 * 8, "two words");
 static_assert(sizeof(polzaintu_waves) == 66 * 8, "sixty-six words");
 static_assert(sizeof(polzaintu_half_ticks) == 2 * 8, "two words");
 static_assert(sizeof(polzaintu_half_gaps) == 2 * 8, "two words");
-static_assert(sizeof(polzaintu_board) == 15 * 8, "fifteen words");
+static_assert(sizeof(polzaintu_board) == 18 * 8, "eighteen words");
 static_assert(sizeof(polzaintu_range) == 3 * 8, "three words");
 static_assert(sizeof(polzaintu_broken) == 3 * 8, "three words");
 static_assert(sizeof(polzaintu_broken_in_row) == 4 * 8, "four words");

@@ -1,4 +1,5 @@
-//! The tile as it runs (§E5.1 to §E5.5): pulses and closed readings one by one, on the tile's own clock, and refusal 54.
+//! The tile as it runs (§E5.1 to §E5.5, §E6.1): pulses and closed readings one by one, on the tile's own
+//! clock, refusal 54, and a count of repeats for each sender.
 
 use crate::rule::forward;
 use crate::settings::Settings;
@@ -7,7 +8,7 @@ use crate::{refuse_if, Refused, Tick, LATEST_STAMP};
 /// The last reading that opens, 2^42 - 1.
 pub const LAST_READING: u64 = (1 << 42) - 1;
 
-/// Where the count of repeats stays.
+/// Where a count of repeats stays.
 pub const MOST_REPEATS: u64 = 65_535;
 
 /// A tile that runs.
@@ -17,8 +18,8 @@ pub struct Board {
     pub settings: Settings,
     /// The reading of each sender's first pulse: own, then the neighbours. `None` is not yet heard.
     pub stamps: Vec<Option<u64>>,
-    /// The pulses that were not the first of their sender.
-    pub repeats: u64,
+    /// The pulses of each sender after its first: own, then the neighbours.
+    pub repeats: Vec<u64>,
     /// The open reading, or the last one that was.
     pub reading: u64,
     /// Whether its run is over, and how it ended.
@@ -53,10 +54,11 @@ impl Board {
         settings.check()?;
         refuse_if(!(2..=3).contains(&count), 11)?;
         refuse_if(reading > LATEST_STAMP, 12)?;
+        let senders = 1 + count as usize;
         Ok(Board {
             settings: *settings,
-            stamps: vec![None; 1 + count as usize],
-            repeats: 0,
+            stamps: vec![None; senders],
+            repeats: vec![0; senders],
             reading,
             stage: Stage::Running,
         })
@@ -68,11 +70,11 @@ impl Board {
             return Ok(());
         }
         refuse_if(sender >= self.stamps.len() as u64, 54)?;
-        let stamp = &mut self.stamps[sender as usize];
-        if stamp.is_none() {
-            *stamp = Some(self.reading);
-        } else if self.repeats < MOST_REPEATS {
-            self.repeats += 1;
+        let sender = sender as usize;
+        if self.stamps[sender].is_none() {
+            self.stamps[sender] = Some(self.reading);
+        } else if self.repeats[sender] < MOST_REPEATS {
+            self.repeats[sender] += 1;
         }
         Ok(())
     }
@@ -175,8 +177,8 @@ mod tests {
             }
             let board = started(count, LATEST_STAMP);
             assert_eq!(board.stamps, vec![None; 1 + count as usize]);
-            let rest = (board.repeats, board.reading, board.stage);
-            assert_eq!(rest, (0, LATEST_STAMP, Stage::Running));
+            assert_eq!(board.repeats, vec![0; 1 + count as usize]);
+            assert_eq!((board.reading, board.stage), (LATEST_STAMP, Stage::Running));
         }
     }
 
@@ -184,7 +186,7 @@ mod tests {
     fn refusal_54_keeps_the_state() {
         for count in [2, 3] {
             let mut board = started(count, 7);
-            hear(&mut board, &[0, count, count]);
+            hear(&mut board, &[0, 1, 1, count, count, count]);
             let held = board.clone();
             for sender in [count + 1, 4, u64::MAX] {
                 assert_eq!(board.pulse(sender), Err(Refused(54)));
@@ -197,23 +199,48 @@ mod tests {
     fn the_first_pulse_of_a_sender_counts() {
         let mut board = started(3, 5);
         hear(&mut board, &[2, 2, 2]);
-        assert_eq!((board.repeats, board.stamps[2]), (2, Some(5)));
+        assert_eq!(board.stamps, [None, None, Some(5), None]);
+        assert_eq!(board.repeats, [0, 0, 2, 0]);
         board.close();
         hear(&mut board, &[2, 0, 3, 3]);
-        assert_eq!(board.repeats, 4);
         assert_eq!(board.stamps, [Some(6), None, Some(5), Some(6)]);
+        assert_eq!(board.repeats, [0, 0, 3, 1]);
+    }
+
+    /// All senders in turn, and one of them more often.
+    #[test]
+    fn repeats_are_their_senders() {
+        for count in [2, 3] {
+            let senders: Vec<u64> = (0..=count).collect();
+            for &chatters in &senders {
+                let mut board = started(count, 5);
+                hear(&mut board, &senders);
+                assert_eq!(board.repeats, vec![0; senders.len()]);
+                hear(&mut board, &[chatters; 3]);
+                board.close();
+                hear(&mut board, &senders);
+                hear(&mut board, &[chatters]);
+                let due = senders.iter().map(|&s| if s == chatters { 5 } else { 1 });
+                assert_eq!(board.repeats, due.collect::<Vec<u64>>());
+            }
+        }
     }
 
     #[test]
-    fn repeats_stay_at_65_535() {
+    fn each_count_stays_at_65_535() {
         let mut board = started(2, 0);
         hear(&mut board, &[1]);
         for repeats in 1..=MOST_REPEATS {
             hear(&mut board, &[1]);
-            assert_eq!(board.repeats, repeats);
+            assert_eq!(board.repeats, [0, repeats, 0]);
         }
-        hear(&mut board, &[1, 1, 0, 0]);
-        assert_eq!(board.repeats, MOST_REPEATS);
+        hear(&mut board, &[1, 1, 0, 0, 2, 2, 2]);
+        assert_eq!(board.repeats, [1, MOST_REPEATS, 2]);
+        for _ in 0..MOST_REPEATS {
+            hear(&mut board, &[2]);
+        }
+        hear(&mut board, &[0]);
+        assert_eq!(board.repeats, [2, MOST_REPEATS, MOST_REPEATS]);
     }
 
     /// With one sender, of three or of four, there is no P: it waits however long, and the last close ends the run.
@@ -231,17 +258,24 @@ mod tests {
         }
     }
 
+    /// A repeat before the close that ends the run counts.
     #[test]
     fn nothing_counts_once_it_is_over() {
         let mut pulsed = started(2, 1_000);
         hear(&mut pulsed, &[0, 1, 1]);
-        assert_eq!(pulsed.close_many(401), Answer::Pulses);
+        assert_eq!(pulsed.close_many(400), Answer::Waits);
+        hear(&mut pulsed, &[1]);
+        assert_eq!(pulsed.close(), Answer::Pulses);
+        assert_eq!(pulsed.repeats, [0, 2, 0]);
         let mut ended = started(3, 1_000);
         hear(&mut ended, &[3, 3]);
-        assert_eq!(ended.close_many(u64::MAX), Answer::Done);
+        assert_eq!(ended.close_many(LAST_READING - 1_000), Answer::Waits);
+        hear(&mut ended, &[3]);
+        assert_eq!(ended.close(), Answer::Done);
+        assert_eq!(ended.repeats, [0, 0, 0, 2]);
         for mut over in [pulsed, ended] {
             let held = over.clone();
-            hear(&mut over, &[0, 1, 2, 3, 4, u64::MAX]);
+            hear(&mut over, &[0, 0, 1, 1, 2, 2, 3, 3, 4, u64::MAX]);
             assert_eq!(over.close(), Answer::Done);
             for n in [0, 1, u64::MAX] {
                 assert_eq!(over.close_many(n), Answer::Done);

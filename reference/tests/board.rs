@@ -1,4 +1,4 @@
-//! Runs of a tile (§E5.3): at which close it pulses, from its senders' stamps.
+//! Runs of a tile (§E5.3): at which close it pulses, from its senders' stamps, whatever the repeats (§E6.3).
 
 use wall_reference::board::{Answer, Board};
 use wall_reference::cases::build::PRINTED;
@@ -12,24 +12,36 @@ fn settings() -> Settings {
     Settings::new(PRINTED).unwrap()
 }
 
-/// The reading at whose close a tile pulses that starts at a reading and hears these stamps, at each reading in this
-/// order of the senders. It waits at every close before.
-fn pulses_at(settings: &Settings, first: u64, stamps: &[Option<u64>], order: &[usize]) -> u64 {
+/// A tile that starts at a reading and hears these stamps, at each reading in this order of the senders, up to its
+/// pulse. The one that chatters pulses at every later reading too. The tile waits at every close before.
+fn run(
+    settings: &Settings,
+    first: u64,
+    stamps: &[Option<u64>],
+    order: &[usize],
+    chatters: Option<usize>,
+) -> Board {
     let mut board = Board::start(settings, stamps.len() as u64 - 1, first).unwrap();
     for reading in first..first + 10_000 {
         assert_eq!(board.reading, reading);
         for &sender in order {
-            if stamps[sender] == Some(reading) {
+            let again = chatters == Some(sender) && stamps[sender].is_some_and(|s| s < reading);
+            if again || stamps[sender] == Some(reading) {
                 assert_eq!(board.pulse(sender as u64), Ok(()));
             }
         }
         match board.close() {
             Answer::Waits => {}
-            Answer::Pulses => return reading,
+            Answer::Pulses => return board,
             Answer::Done => panic!("a run that is over"),
         }
     }
     panic!("no pulse for {stamps:?}");
+}
+
+/// The reading at whose close such a tile pulses, where no sender chatters.
+fn pulses_at(settings: &Settings, first: u64, stamps: &[Option<u64>], order: &[usize]) -> u64 {
+    run(settings, first, stamps, order, None).reading
 }
 
 /// P of all stamps, those after the tile's own pulse too, and A.
@@ -180,5 +192,26 @@ fn a_pulse_that_is_due_earlier_than_now() {
     for (late, at) in [(1_399, 1_399), (1_400, 1_400), (1_401, 1_400)] {
         let stamps = [Some(1_000), Some(0), Some(late)];
         assert_eq!(pulses_at(&settings(), 0, &stamps, &[0, 1, 2]), at);
+    }
+}
+
+/// A sender that pulses at every reading from its stamp on has its own count, and the pulse is where it is without.
+#[test]
+fn a_sender_that_chatters() {
+    for stamps in [
+        vec![Some(1_000), Some(0), Some(1_390)],
+        vec![Some(1_000), Some(0), None],
+        vec![Some(220), Some(100), Some(300), Some(170)],
+        vec![None, Some(100), Some(130), Some(120)],
+    ] {
+        let order: Vec<usize> = (0..stamps.len()).collect();
+        let at = pulses_at(&settings(), 0, &stamps, &order);
+        for chatters in 0..stamps.len() {
+            let board = run(&settings(), 0, &stamps, &order, Some(chatters));
+            assert_eq!(board.reading, at, "{stamps:?}, {chatters}");
+            let mut repeats = vec![0; stamps.len()];
+            repeats[chatters] = stamps[chatters].map_or(0, |stamp| at - stamp);
+            assert_eq!(board.repeats, repeats);
+        }
     }
 }

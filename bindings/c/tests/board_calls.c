@@ -6,14 +6,21 @@ bool same_board(const polzaintu_board *a, const polzaintu_board *b) {
     return memcmp(a, b, sizeof *a) == 0;
 }
 
+bool repeats_are(const polzaintu_board *board, uint64_t own, uint64_t first, uint64_t second,
+                 uint64_t third) {
+    const uint64_t repeats[] = {own, first, second, third};
+    return memcmp(board->repeats, repeats, sizeof repeats) == 0;
+}
+
 polzaintu_board board_started(polzaintu_settings settings, uint64_t count, uint64_t reading) {
     polzaintu_board board;
     fill(&board, sizeof board);
     CHECK(polzaintu_board_start(&settings, count, reading, &board) == 0);
     CHECK(memcmp(&board.settings, &settings, sizeof settings) == 0);
-    CHECK(board.count == count && board.repeats == 0 && board.reading == reading);
+    CHECK(board.count == count && board.reading == reading);
     for (size_t place = 0; place < 4; place++)
         CHECK(board.stamps[place] == POLZAINTU_SILENT);
+    CHECK(repeats_are(&board, 0, 0, 0, 0));
     CHECK(board.stage == POLZAINTU_BOARD_RUNNING);
     return board;
 }
@@ -21,9 +28,12 @@ polzaintu_board board_started(polzaintu_settings settings, uint64_t count, uint6
 uint32_t board_pulse(polzaintu_board *board, uint64_t sender) {
     polzaintu_board expected = *board;
     const uint32_t number = polzaintu_board_pulse(board, sender);
-    if (number == 0 && sender <= board->count) {
-        expected.stamps[sender] = board->stamps[sender];
-        expected.repeats = board->repeats;
+    const bool running = expected.stage == POLZAINTU_BOARD_RUNNING;
+    if (number == 0 && running && sender <= expected.count) {
+        if (expected.stamps[sender] == POLZAINTU_SILENT)
+            expected.stamps[sender] = board->stamps[sender];
+        else
+            expected.repeats[sender] = board->repeats[sender];
     }
     CHECK(same_board(board, &expected));
     return number;

@@ -1,27 +1,43 @@
-/* Runs of a tile: at which close it pulses, from its senders' stamps, and closes at once beside
- * closes one by one. */
+/* Runs of a tile: at which close it pulses, from its senders' stamps, whatever the repeats, and
+ * closes at once beside closes one by one. */
 #include "board_calls.h"
+
+#include <string.h>
 
 #define SILENT POLZAINTU_SILENT
 
-/* The stamps of own and the neighbours as events, at each reading in this order of the senders. The
- * tile must wait at every close before reading due, and pulse there. */
-static void pulses_at(polzaintu_settings settings, const polzaintu_stamps *stamps, uint64_t first,
-                      const uint64_t *order, uint64_t due) {
+/* No sender. */
+#define NOBODY 4
+
+/* The stamps of own and the neighbours as events, at each reading in this order of the senders; the
+ * one that chatters pulses at every later reading too. The tile must wait at every close before
+ * reading due, and pulse there. Answers what it is then. */
+static polzaintu_board run(polzaintu_board board, const polzaintu_stamps *stamps,
+                           const uint64_t *order, uint64_t chatters, uint64_t due) {
     const uint64_t by_sender[] = {stamps->own, stamps->neighbours[0], stamps->neighbours[1],
                                   stamps->neighbours[2]};
-    polzaintu_board board = board_started(settings, stamps->count, first);
     bool waits = true;
-    for (uint64_t reading = first; reading <= due; reading++) {
-        for (uint64_t i = 0; i <= stamps->count; i++)
-            if (by_sender[order[i]] == reading)
+    for (uint64_t reading = board.reading; reading <= due; reading++) {
+        for (uint64_t i = 0; i <= stamps->count; i++) {
+            const uint64_t stamp = by_sender[order[i]];
+            if (stamp == reading || (stamp < reading && order[i] == chatters))
                 waits = waits && board_pulse(&board, order[i]) == 0;
+        }
         if (reading < due)
             waits = waits && board_close(&board) == POLZAINTU_WAITS && board.reading == reading + 1;
     }
     CHECK(waits);
     CHECK(board_close(&board) == POLZAINTU_PULSES);
     CHECK(board.reading == due && board.stage == POLZAINTU_BOARD_PULSED);
+    return board;
+}
+
+/* The same from a start, where no sender chatters. */
+static void pulses_at(polzaintu_settings settings, const polzaintu_stamps *stamps, uint64_t first,
+                      const uint64_t *order, uint64_t due) {
+    const polzaintu_board start = board_started(settings, stamps->count, first);
+    const polzaintu_board board = run(start, stamps, order, NOBODY, due);
+    CHECK(repeats_are(&board, 0, 0, 0, 0));
 }
 
 /* The next order of n numbers, as words in a dictionary; false after the last. */
@@ -114,6 +130,31 @@ static void due_earlier_than_now(void) {
     }
 }
 
+/* Runs in which a sender pulses at every reading from its stamp on, and runs that begin with other
+ * counts: the tile pulses where it does without. */
+static void any_repeats(polzaintu_stamps stamps, uint64_t due) {
+    const uint64_t order[] = {0, 1, 2, 3};
+    const polzaintu_board start = board_started(PRINTED, stamps.count, 0);
+    for (uint64_t chatters = 0; chatters <= stamps.count; chatters++) {
+        const uint64_t stamp = chatters == 0 ? stamps.own : stamps.neighbours[chatters - 1];
+        const polzaintu_board board = run(start, &stamps, order, chatters, due);
+        uint64_t repeats[4] = {0};
+        repeats[chatters] = stamp == SILENT ? 0 : due - stamp;
+        CHECK(memcmp(board.repeats, repeats, sizeof repeats) == 0);
+    }
+    const uint64_t counts[][4] = {{0, 65535, 3, 0},
+                                  {65535, 0, 65534, 1},
+                                  {65535, 65535, 65535, 65535},
+                                  {1, 2, 3, UINT64_MAX}};
+    for (size_t i = 0; i < sizeof counts / sizeof *counts; i++) {
+        polzaintu_board counted = start;
+        memcpy(counted.repeats, counts[i], sizeof counts[i]);
+        CHECK(board_pulse(&counted, stamps.count + 1) == 54);
+        const polzaintu_board board = run(counted, &stamps, order, NOBODY, due);
+        CHECK(memcmp(board.repeats, counts[i], sizeof counts[i]) == 0);
+    }
+}
+
 /* Own at the latest start, and a neighbour so far before the last reading that it is due then, or a
  * reading later. Its stamp is over 2^41 - 1. */
 static void last_reading(void) {
@@ -177,6 +218,10 @@ void board_run_tests(void) {
     for (uint64_t faulty = 700; faulty < 1800; faulty += 23)
         far_apart(faulty);
     due_earlier_than_now();
+    any_repeats((polzaintu_stamps){1000, {0, 1390, 0}, 2}, 1390);
+    any_repeats((polzaintu_stamps){1000, {0, SILENT, 0}, 2}, 1400);
+    any_repeats((polzaintu_stamps){SILENT, {130, 100, 110}, 3}, 566);
+    any_repeats((polzaintu_stamps){220, {200, 300, 100}, 3}, 608);
     last_reading();
     many_closes();
 }

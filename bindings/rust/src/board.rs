@@ -1,4 +1,4 @@
-//! The tile as it runs, event by event on its own clock: §E5.1 to §E5.9.
+//! The tile as it runs, event by event on its own clock: §E5.1 to §E5.9, §E6.1 to §E6.4.
 
 use crate::{ffi, Limits, Refusal, Settings};
 
@@ -18,9 +18,9 @@ use crate::{ffi, Limits, Refusal, Settings};
 /// board.pulse(2)?;
 /// assert_eq!((board.stamp(0), board.stamp(1), board.stamp(2)), (Some(1000), None, Some(1001)));
 ///
-/// // The second pulse of a sender is ignored, and a third neighbour is none.
+/// // The second pulse of a sender is only counted, for that sender, and a third neighbour is none.
 /// board.pulse(2)?;
-/// assert_eq!(board.repeats(), 1);
+/// assert_eq!((board.repeats(0), board.repeats(1), board.repeats(2)), (0, 0, 1));
 /// assert_eq!(board.pulse(3).unwrap_err().number(), 54);
 ///
 /// // P is own, 1000, and the tile pulses when its clock reads P + A.
@@ -44,8 +44,9 @@ pub struct State {
     /// Of own, then of each neighbour, the reading at which it was first heard: 0 to 2^42 - 1, or
     /// 2^64 - 1. A place past the count stays 2^64 - 1.
     pub stamps: [u64; 4],
-    /// The pulses that were not the first of their sender: 0 to 65,535, where it stays.
-    pub repeats: u64,
+    /// Of own, then of each neighbour, the pulses after its first: 0 to 65,535, where it stays. A
+    /// place past the count stays 0.
+    pub repeats: [u64; 4],
     /// The open reading, or the one whose close ended the run: 0 to 2^42 - 1.
     pub reading: u64,
     /// 0 while it runs, 1 once it has pulsed, 2 once it has ended without a pulse.
@@ -83,7 +84,7 @@ impl Board {
             settings: *settings.limits(),
             count,
             stamps: [ffi::SILENT; 4],
-            repeats: 0,
+            repeats: [0; 4],
             reading,
             stage: 0,
         };
@@ -107,7 +108,8 @@ impl Board {
 
     /// A pulse at the open reading, from own, which is 0, or from a neighbour, 1 to the count; or
     /// number 54, and then the tile is as it was. The first pulse of a sender makes its stamp, any
-    /// other is a repeat. Once the run is over every pulse is ignored, whoever sends it.
+    /// other is a repeat and only counted as one of that sender. Once the run is over every pulse
+    /// is ignored, whoever sends it.
     pub fn pulse(&mut self, sender: u64) -> Result<(), Refusal> {
         // A start wrote the state, or a check passed it, so it fits.
         Refusal::check(ffi::board_pulse(&mut self.0, sender))
@@ -137,16 +139,14 @@ impl Board {
     /// tile's.
     #[must_use]
     pub fn stamp(&self, sender: u64) -> Option<u64> {
-        // The count is 2 or 3.
-        let stamps = &self.0.stamps[..=self.0.count as usize];
-        let stamp = *stamps.get(usize::try_from(sender).ok()?)?;
+        let stamp = self.at(&self.0.stamps, sender)?;
         (stamp != ffi::SILENT).then_some(stamp)
     }
 
-    /// The pulses that were not the first of their sender, up to 65,535.
+    /// The pulses of a sender after its first, up to 65,535; 0 for one that is none of the tile's.
     #[must_use]
-    pub fn repeats(&self) -> u64 {
-        self.0.repeats
+    pub fn repeats(&self, sender: u64) -> u64 {
+        self.at(&self.0.repeats, sender).unwrap_or(0)
     }
 
     /// The open reading, or the one whose close ended the run.
@@ -169,6 +169,13 @@ impl Board {
     #[must_use]
     pub fn state(&self) -> &State {
         &self.0
+    }
+
+    /// The word at a sender's place; `None` where it is none of the tile's.
+    fn at(&self, places: &[u64; 4], sender: u64) -> Option<u64> {
+        // The count is 2 or 3.
+        let places = &places[..=self.0.count as usize];
+        places.get(usize::try_from(sender).ok()?).copied()
     }
 }
 

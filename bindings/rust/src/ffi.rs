@@ -150,7 +150,7 @@ const _: () = assert!(size_of::<Pair>() == 2 * 8);
 const _: () = assert!(size_of::<Waves>() == 66 * 8);
 const _: () = assert!(size_of::<HalfTicks>() == 2 * 8);
 const _: () = assert!(size_of::<HalfGaps>() == 2 * 8);
-const _: () = assert!(size_of::<State>() == 15 * 8);
+const _: () = assert!(size_of::<State>() == 18 * 8);
 const _: () = assert!(size_of::<Broken>() == 3 * 8);
 const _: () = assert!(size_of::<BrokenInRow>() == 4 * 8);
 const _: () = assert!(size_of::<Survey>() == 3 * 8);

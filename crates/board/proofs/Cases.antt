@@ -8,7 +8,7 @@ use Rattle.senders.specs.Senders.{last}
 use Rattle.board.specs.Stand.{stand, closing, told, is-running}
 use Rattle.board.specs.State.{looked-at, reached, fits, runs, start-tests, start-refusal, fresh, started, hears, pulsed, at, shut, shut-many, answered, closed, closed-many}
 use Rattle.board.specs.Closing.{end-of, closings, jumped}
-use Rattle.board.specs.Cases.{wall, drifting, Start-cases, state, Fresh-case, Arrival, _at_, arrives, arrive, Pulses-at, In-each, Tile-cases, Three-cases, Late-start-case, Unheard-cases, Repeat-cases, repeated, Count-cases, Sender-cases, Over-cases, late, Last-cases}
+use Rattle.board.specs.Cases.{wall, drifting, Start-cases, state, Fresh-case, Arrival, _at_, arrives, arrive, Pulses-at, In-each, Tile-cases, Three-cases, Late-start-case, Unheard-cases, Repeat-cases, Told-cases, Sender-cases, Over-cases, late, Last-cases}
 use Rattle.board.specs.declared.Board.{Board}
 use Rattle.board.specs.declared.stand.Stage.the-variants as stage
 use Rattle.board.proofs.Laws.Closing.{jumps}
@@ -119,9 +119,9 @@ pub repeat-cases : Repeat-cases
 unfolding computed Repeat-cases hop hops
 repeat-cases = (hop-is _ (1 at 5 ∷ 1 at 5 ∷ []), hop-is _ (1 at 5 ∷ 0 at 6 ∷ 1 at 9 ∷ 0 at 9 ∷ []))
 
-pub count-cases : Count-cases
-unfolding computed Count-cases repeated
-count-cases = (refl, refl, refl, refl)
+pub told-cases : Told-cases
+unfolding computed Told-cases
+told-cases = refl
 
 pub sender-cases : Sender-cases
 unfolding computed Sender-cases
@@ -133,4 +133,4 @@ over-cases = (refl, refl, refl, refl, refl, refl, refl, refl)
 
 pub last-cases : Last-cases
 unfolding computed Last-cases late shut closed closed-many
-last-cases = (refl, refl, refl, rw (jumps (2 ^ 64 - 1) (late 399 (last - 7) stage.Running)), refl, refl)
+last-cases = (refl, refl, refl, rw (jumps (2 ^ 64 - 1) (late 399 (last - 7) stage.Running)), refl, refl, refl)

@@ -1,6 +1,6 @@
 -- The proofs of what specs/Promises.antt states. Assumes nothing.
-use mathlib.Core.Path.{_≡_, refl, sym, _∙_}
-use mathlib.Core.Bool.{Bool, true, false, cond}
+use mathlib.Core.Path.{_≡_, refl, sym, _∙_, ap}
+use mathlib.Core.Bool.{Bool}
 use Prim.Native.Nat.{ℕ, _≤_}
 use lib.Dec.{ltb}
 use native.Mathlib.Omega.{arith}
@@ -14,10 +14,12 @@ use Rattle.settings.proofs.Laws.Cases.{by-zero}
 use Rattle.settings.proofs.Laws.Refusal.{skip, end, skip-given, unhit, unhit-given, within, inside}
 use Rattle.rule.specs.Stamp.{latest-stamp}
 use Rattle.board.specs.Stand.{stand, is-running}
-use Rattle.board.specs.State.{runs, start-tests, start-refusal, fresh, started, hears, pulsed, shut-many, answered, closed, closed-many}
+use Rattle.board.specs.State.{runs, start-tests, start-refusal, fresh, started, pulsed, shut-many, answered, closed, closed-many}
 use Rattle.board.specs.Promises.{Start-plain, Refused-over, Wrong-kept, Over-ignores, Closings-right, One-close}
+use Rattle.board.specs.declared.Board.{Board}
 use Rattle.board.specs.declared.Heard.{Heard}
 use Rattle.board.proofs.Laws.State.{many-over}
+use Rattle.board.proofs.Laws.Pulse.{ignored, turned-away, taken, by-way}
 use Rattle.board.proofs.Laws.Closing.{jumps}
 
 -- the number of a start
@@ -51,20 +53,15 @@ unfolding Refused-over started runs fresh stand is-running
 refused-over s n v k = rw (ne-eqb (start-refusal s n v) 0 (λ z. k (number-is s n v ∙ z)))
 
 pub wrong-kept : Wrong-kept
-unfolding Wrong-kept pulsed
-wrong-kept b k e = pick (runs b) (ltb (b .senders .count) k) e
+unfolding Wrong-kept
+wrong-kept b k e = by-way b k (λ o. other (ignored b k o)) (turned-away b k) (λ r i. other (taken b k r i))
   where
-    heard : (p q : Bool) → Heard
-    heard p q = cond p (cond q (record { number = 54; board = b }) (record { number = 0; board = hears b k })) (record { number = 0; board = b })
-
-    pick : (p q : Bool) → heard p q .number ≡ 54 → heard p q .board ≡ b
-    pick true true e = refl
-    pick true false e = let never : ⊥ = omega arith in absurd never
-    pick false q e = refl
+    other : {p : Bool} {c : Board} {C : Type 0} → pulsed b k ≡ record { number = 0; repeat = p; board = c } → C
+    other f = let never : _≡_ {A = ℕ} 54 0 = sym e ∙ ap (λ (r : Heard). r .number) f in absurd (omega arith)
 
 pub over-ignores : Over-ignores
-unfolding Over-ignores pulsed closed-many answered
-over-ignores b e = (λ k. rw e, λ n. rw (e, many-over n b e))
+unfolding Over-ignores closed-many answered
+over-ignores b e = (λ k. ignored b k e, λ n. rw (e, many-over n b e))
 
 pub closings-right : Closings-right
 unfolding Closings-right

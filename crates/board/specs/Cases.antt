@@ -1,7 +1,8 @@
 -- The tile at numbers, with unit 12 and hold 400. Each statement is proved in proofs/Cases.antt, under its name in small letters. Assumes
 -- nothing.
 use mathlib.Core.Path.{_≡_}
-use mathlib.Core.List.{List, [], _∷_}
+use mathlib.Core.Bool.{true, false}
+use mathlib.Core.List.{List, [], _∷_, map}
 use Prim.Native.Nat.{ℕ, suc, _+_, _-_, _^_}
 use Rattle.senders.specs.Senders.{last}
 use Rattle.settings.specs.Settings.{settings}
@@ -34,12 +35,12 @@ Start-cases =
     × (start-refusal (settings 5 1 100 10 191 0 12) 2 0 ≡ 1)
 
 -- §E5.9 a state of the wall
-unfoldable pub state : (count : ℕ) → (stamps : List ℕ) → (repeats reading : ℕ) → Stage → Board
-state n xs r v x = record { settings = wall; senders = record { count = n; stamps = xs; repeats = r }; stand = stand v x }
+unfoldable pub state : (count : ℕ) → (stamps : List ℕ) → (reading : ℕ) → Stage → Board
+state n xs v x = record { settings = wall; senders = record { count = n; stamps = xs }; stand = stand v x }
 
 -- §E5.1 nothing is heard, and the first reading is open
 unfoldable pub Fresh-case : Type 0
-Fresh-case = started wall 3 7 .board ≡ state 3 (silence ∷ silence ∷ silence ∷ silence ∷ []) 0 7 stage.Running
+Fresh-case = started wall 3 7 .board ≡ state 3 (silence ∷ silence ∷ silence ∷ silence ∷ []) 7 stage.Running
 
 infix 70 _at_
 -- §E5.6 a pulse of a sender at a reading
@@ -121,27 +122,21 @@ Unheard-cases =
 -- §E5.2 a pulse and a repeat in one reading, and a repeat later: the first is the stamp
 unfoldable pub Repeat-cases : Type 0
 Repeat-cases =
-    (arrive (started wall 2 0 .board) (1 at 5 ∷ 1 at 5 ∷ []) ≡ state 2 (silence ∷ 5 ∷ silence ∷ silence ∷ []) 1 5 stage.Running)
-    × (arrive (started wall 2 0 .board) (1 at 5 ∷ 0 at 6 ∷ 1 at 9 ∷ 0 at 9 ∷ []) ≡ state 2 (6 ∷ 5 ∷ silence ∷ silence ∷ []) 2 9 stage.Running)
+    (arrive (started wall 2 0 .board) (1 at 5 ∷ 1 at 5 ∷ []) ≡ state 2 (silence ∷ 5 ∷ silence ∷ silence ∷ []) 5 stage.Running)
+    × (arrive (started wall 2 0 .board) (1 at 5 ∷ 0 at 6 ∷ 1 at 9 ∷ 0 at 9 ∷ []) ≡ state 2 (6 ∷ 5 ∷ silence ∷ silence ∷ []) 9 stage.Running)
 
--- §E5.2 own and a neighbour are heard, with so many repeats
-unfoldable pub repeated : (repeats : ℕ) → Board
-repeated r = state 2 (6 ∷ 5 ∷ silence ∷ silence ∷ []) r 9 stage.Running
+-- §E5.2 which pulses are repeats: those of senders that are heard
+unfoldable pub Told-cases : Type 0
+Told-cases =
+    let b = state 3 (6 ∷ silence ∷ silence ∷ 5 ∷ []) 9 stage.Running in
+    map (λ (k : ℕ). pulsed b k .repeat) (0 ∷ 1 ∷ 2 ∷ 3 ∷ 4 ∷ []) ≡ true ∷ false ∷ false ∷ true ∷ false ∷ []
 
--- §E5.2 the count goes to 65,535 and stays
-unfoldable pub Count-cases : Type 0
-Count-cases =
-    (pulsed (repeated 65533) 1 .board ≡ repeated 65534)
-    × (pulsed (repeated 65534) 1 .board ≡ repeated 65535)
-    × (pulsed (repeated 65535) 1 .board ≡ repeated 65535)
-    × (pulsed (repeated 65535) 0 .board ≡ repeated 65535)
-
--- §E5.2 54 past the count, and no count is raised; the last neighbour is none past it
+-- §E5.2 54 past the count, and no repeat; the last neighbour is none past it
 unfoldable pub Sender-cases : Type 0
 Sender-cases =
     let two = started wall 2 0 .board in
     (pulsed two 2 .number ≡ 0)
-    × (pulsed two 3 ≡ record { number = 54; board = two })
+    × (pulsed two 3 ≡ record { number = 54; repeat = false; board = two })
     × (pulsed (started wall 3 0 .board) 3 .number ≡ 0)
     × (pulsed (started wall 3 0 .board) 4 .number ≡ 54)
     × (pulsed two (2 ^ 64 - 1) .number ≡ 54)
@@ -149,12 +144,12 @@ Sender-cases =
 -- §E5.4 once it has pulsed: repeats, first pulses and wrong senders are ignored, and it pulses no more
 unfoldable pub Over-cases : Type 0
 Over-cases =
-    let b = state 2 (100 ∷ 100 ∷ silence ∷ silence ∷ []) 3 500 stage.Running in
-    let over = state 2 (100 ∷ 100 ∷ silence ∷ silence ∷ []) 3 500 stage.Pulsed in
+    let b = state 2 (100 ∷ 100 ∷ silence ∷ silence ∷ []) 500 stage.Running in
+    let over = state 2 (100 ∷ 100 ∷ silence ∷ silence ∷ []) 500 stage.Pulsed in
     (closed b ≡ record { answer = answer.Pulsed; board = over })
-    × (pulsed over 1 ≡ record { number = 0; board = over })
-    × (pulsed over 2 ≡ record { number = 0; board = over })
-    × (pulsed over 3 ≡ record { number = 0; board = over })
+    × (pulsed over 1 ≡ record { number = 0; repeat = false; board = over })
+    × (pulsed over 2 ≡ record { number = 0; repeat = false; board = over })
+    × (pulsed over 3 ≡ record { number = 0; repeat = false; board = over })
     × (closed over ≡ record { answer = answer.Done; board = over })
     × (closed-many b 9 ≡ record { answer = answer.Pulsed; board = over })
     × (closed-many b 0 ≡ record { answer = answer.Waits; board = b })
@@ -162,7 +157,7 @@ Over-cases =
 
 -- §E5.3 all senders are heard so many ticks before the last reading, and pulses are due 400 later
 unfoldable pub late : (before reading : ℕ) → Stage → Board
-late t v x = state 2 ((last - t) ∷ (last - t) ∷ (last - t) ∷ silence ∷ []) 0 v x
+late t v x = state 2 ((last - t) ∷ (last - t) ∷ (last - t) ∷ silence ∷ []) v x
 
 -- §E5.3 the close of 2^42 - 1 may pulse; where it does not, the run ends. The one before opens it
 unfoldable pub Last-cases : Type 0
@@ -171,5 +166,6 @@ Last-cases =
     × (closed (late 400 last stage.Running) ≡ record { answer = answer.Pulsed; board = late 400 last stage.Pulsed })
     × (closed (late 399 last stage.Running) ≡ record { answer = answer.Done; board = late 399 last stage.Ended })
     × (closed-many (late 399 (last - 7) stage.Running) (2 ^ 64 - 1) ≡ record { answer = answer.Done; board = late 399 last stage.Ended })
+    × (pulsed (late 399 last stage.Ended) 0 ≡ record { number = 0; repeat = false; board = late 399 last stage.Ended })
     × (pulsed (late 399 last stage.Ended) 9 .number ≡ 0)
     × (last ≡ 2 ^ 42 - 1)

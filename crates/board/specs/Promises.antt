@@ -20,15 +20,15 @@ Start-plain = (s : Settings) (n v : ℕ) → (Limits s × (2 ≤ n) × (n ≤ 3)
 unfoldable pub Refused-over : Type 0
 Refused-over = (s : Settings) (n v : ℕ) → (started s n v .number ≡ 0 → ⊥) → runs (started s n v .board) ≡ false
 
--- §E5.2 54 keeps the state
+-- §E5.2 54 keeps the state, and is no repeat
 unfoldable pub Wrong-kept : Type 0
-Wrong-kept = (b : Board) (k : ℕ) → pulsed b k .number ≡ 54 → pulsed b k .board ≡ b
+Wrong-kept = (b : Board) (k : ℕ) → pulsed b k .number ≡ 54 → pulsed b k ≡ record { number = 54; repeat = false; board = b }
 
 -- §E5.4 once its run is over a tile ignores everything; so does one that does not fit (§E5.9)
 unfoldable pub Over-ignores : Type 0
 Over-ignores =
     (b : Board) → runs b ≡ false →
-    ((k : ℕ) → pulsed b k ≡ record { number = 0; board = b }) × ((n : ℕ) → closed-many b n ≡ record { answer = Done; board = b })
+    ((k : ℕ) → pulsed b k ≡ record { number = 0; repeat = false; board = b }) × ((n : ℕ) → closed-many b n ≡ record { answer = Done; board = b })
 
 -- §E5.5 many closes in constant time are as many one by one
 unfoldable pub Closings-right : Type 0

@@ -1,5 +1,5 @@
 -- What each operation makes of any state. Assumes nothing.
-use mathlib.Core.Bool.{Bool, cond, not, _&&_}
+use mathlib.Core.Bool.{Bool, false, cond, not, _&&_}
 use mathlib.Core.List.{List, [], _∷_}
 use Prim.Native.Nat.{ℕ, zero, suc}
 use lib.Dec.{eqb, leb, ltb}
@@ -8,7 +8,7 @@ use Rattle.settings.specs.Settings.{settings-refusal}
 use Rattle.settings.specs.declared.Settings.{Settings}
 use Rattle.rule.specs.Stamp.{latest-stamp}
 use Rattle.senders.specs.Due.{reaches}
-use Rattle.senders.specs.Senders.{last, own-stamp, neighbour-stamps, unheard-all, heard-by, fit}
+use Rattle.senders.specs.Senders.{last, own-stamp, neighbour-stamps, unheard-all, is-heard, heard-by, fit}
 use Rattle.board.specs.Stand.{stand, closing, told, is-running}
 use Rattle.board.specs.declared.Board.{Board}
 use Rattle.board.specs.declared.Started.{Started}
@@ -61,12 +61,14 @@ started s n v =
 unfoldable pub hears : Board → (sender : ℕ) → Board
 hears b k = record { settings = b .settings; senders = heard-by (b .senders) k (b .stand .reading); stand = b .stand }
 
--- §E5.2 the state after a pulse: 54 leaves it, and so does any pulse once the run is over (§E5.4)
+-- §E5.2 a pulse: its number, whether it is a repeat, and the state after it. 54 leaves that, and so does any pulse once the run is over (§E5.4)
 unfoldable pub pulsed : Board → (sender : ℕ) → Heard
 pulsed b k =
     cond (runs b)
-    (cond (ltb (b .senders .count) k) (record { number = 54; board = b }) (record { number = 0; board = hears b k }))
-    (record { number = 0; board = b })
+    (cond (ltb (b .senders .count) k)
+    (record { number = 54; repeat = false; board = b })
+    (record { number = 0; repeat = is-heard (b .senders) k; board = hears b k }))
+    (record { number = 0; repeat = false; board = b })
 
 -- §E5.3 the tile at a stand
 unfoldable pub at : Board → Stand → Board

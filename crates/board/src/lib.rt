@@ -28,6 +28,8 @@ pub struct Started {
 pub struct Heard {
     // 0, or 54; the state is then what it was.
     pub number: u32,
+    // Whether it was a repeat: from a sender that was heard before, while the tile runs.
+    pub repeat: bool,
     pub board: Board,
 }
 
@@ -80,20 +82,24 @@ impl Board {
             if senders.count < sender {
                 return Heard {
                     number: 54,
+                    repeat: false,
                     board: self,
                 };
             }
+            let place = sender as usize;
             return Heard {
                 number: 0,
+                repeat: senders.heard(place),
                 board: Board {
                     settings,
-                    senders: senders.hear(sender as usize, stand.reading),
+                    senders: senders.hear(place, stand.reading),
                     stand,
                 },
             };
         }
         Heard {
             number: 0,
+            repeat: false,
             board: self,
         }
     }

@@ -4,41 +4,42 @@ use board::Board;
 use board::stand::Answer;
 use board::stand::Stage;
 use board::stand::Stand;
+use counted::Counted;
 use layout::UNFIT;
 use senders::Senders;
 use settings::Settings;
 ghost use mathlib.Core.Path.{_≡_};
 ghost use Rattle.layout.specs.Words.{settings-from};
-ghost use Rattle.board_calls.specs.Words.{stage-in, stage-word, answer-word, senders-in, board-in, board-words, fits-in};
+ghost use Rattle.board_calls.specs.Words.{stage-in, stage-word, answer-word, senders-in, tile-in, tile-words, fits-in};
 ghost use Rattle.board_calls.specs.Answers.{start-number, start-left, pulse-number, pulse-left, close-number, close-left, close-answer, many-left, many-answer};
 
-pub fn start(settings: Settings, count: u64, reading: u64, words: &mut [u64; 15]) -> u32
+pub fn start(settings: Settings, count: u64, reading: u64, words: &mut [u64; 18]) -> u32
     ensures number { λ r. ⌜ r ≡ start-number settings count reading ⌝ }
     ensures words { λ r. ⌜ now (words .exit) ≡ start-left settings count reading (now (words .entry)) ⌝ }
 {
-    let started = Board::start(settings, count, reading);
+    let started = Counted::start(settings, count, reading);
     let number = started.number;
     if number != 0 {
         return number;
     }
-    *words = board_words(started.board);
+    *words = tile_words(started.tile);
     0
 }
 
-pub fn pulse(words: &mut [u64; 15], sender: u64) -> u32
+pub fn pulse(words: &mut [u64; 18], sender: u64) -> u32
     ensures number { λ r. ⌜ r ≡ pulse-number (now (words .entry)) sender ⌝ }
     ensures words { λ r. ⌜ now (words .exit) ≡ pulse-left (now (words .entry)) sender ⌝ }
 {
     if fits_in(words) {
-        let board = board_in(words);
-        let heard = board.pulse(sender);
-        *words = board_words(heard.board);
+        let tile = tile_in(words);
+        let heard = tile.pulse(sender);
+        *words = tile_words(heard.tile);
         return heard.number;
     }
     UNFIT
 }
 
-pub fn close(words: &mut [u64; 15], answer: &mut u32) -> u32
+pub fn close(words: &mut [u64; 18], answer: &mut u32) -> u32
     ensures number { λ r. ⌜ r ≡ close-number (now (words .entry)) ⌝ }
     ensures words { λ r. ⌜ now (words .exit) ≡ close-left (now (words .entry)) ⌝ }
     ensures answer { λ r. ⌜ now (answer .exit) ≡ close-answer (now (words .entry)) (now (answer .entry)) ⌝ }
@@ -46,16 +47,16 @@ pub fn close(words: &mut [u64; 15], answer: &mut u32) -> u32
     close_many(words, 1, answer)
 }
 
-pub fn close_many(words: &mut [u64; 15], n: u64, answer: &mut u32) -> u32
+pub fn close_many(words: &mut [u64; 18], n: u64, answer: &mut u32) -> u32
     ensures number { λ r. ⌜ r ≡ close-number (now (words .entry)) ⌝ }
     ensures words { λ r. ⌜ now (words .exit) ≡ many-left (now (words .entry)) n ⌝ }
     ensures answer { λ r. ⌜ now (answer .exit) ≡ many-answer (now (words .entry)) n (now (answer .entry)) ⌝ }
 {
     if fits_in(words) {
-        let board = board_in(words);
-        let closed = board.close_many(n);
+        let tile = tile_in(words);
+        let closed = tile.close_many(n);
         let told = closed.answer;
-        *words = board_words(closed.board);
+        *words = tile_words(closed.tile);
         *answer = answer_word(told);
         return 0;
     }
@@ -63,30 +64,33 @@ pub fn close_many(words: &mut [u64; 15], n: u64, answer: &mut u32) -> u32
 }
 
 // Whether the words are those of a state that fits.
-fn fits_in(words: &[u64; 15]) -> bool
+fn fits_in(words: &[u64; 18]) -> bool
     ensures { λ r. ⌜ r ≡ fits-in (now (words .entry)) ⌝ }
 {
-    if 2 < words[14] {
+    if 2 < words[17] {
         return false;
     }
-    let board = board_in(words);
-    board.fits()
+    let tile = tile_in(words);
+    tile.board.fits()
 }
 
-fn board_in(words: &[u64; 15]) -> Board
-    ensures { λ r. ⌜ r ≡ board-in (now (words .entry)) ⌝ }
+fn tile_in(words: &[u64; 18]) -> Counted
+    ensures { λ r. ⌜ r ≡ tile-in (now (words .entry)) ⌝ }
 {
-    Board {
-        settings: settings_in(words),
-        senders: senders_in(words),
-        stand: Stand {
-            reading: words[13],
-            stage: stage_in(words[14]),
+    Counted {
+        board: Board {
+            settings: settings_in(words),
+            senders: senders_in(words),
+            stand: Stand {
+                reading: words[16],
+                stage: stage_in(words[17]),
+            },
         },
+        repeats: [words[12], words[13], words[14], words[15]],
     }
 }
 
-fn settings_in(words: &[u64; 15]) -> Settings
+fn settings_in(words: &[u64; 18]) -> Settings
     ensures { λ r. ⌜ r ≡ settings-from 0 (now (words .entry)) ⌝ }
 {
     Settings {
@@ -100,19 +104,20 @@ fn settings_in(words: &[u64; 15]) -> Settings
     }
 }
 
-fn senders_in(words: &[u64; 15]) -> Senders
+fn senders_in(words: &[u64; 18]) -> Senders
     ensures { λ r. ⌜ r ≡ senders-in (now (words .entry)) ⌝ }
 {
     Senders {
         count: words[7],
         stamps: [words[8], words[9], words[10], words[11]],
-        repeats: words[12],
     }
 }
 
-fn board_words(board: Board) -> [u64; 15]
-    ensures { λ r. ⌜ r ≡ board-words board ⌝ }
+fn tile_words(tile: Counted) -> [u64; 18]
+    ensures { λ r. ⌜ r ≡ tile-words tile ⌝ }
 {
+    let board = tile.board;
+    let repeats = tile.repeats;
     let settings = board.settings;
     let senders = board.senders;
     let stand = board.stand;
@@ -129,7 +134,10 @@ fn board_words(board: Board) -> [u64; 15]
         senders.stamps[1],
         senders.stamps[2],
         senders.stamps[3],
-        senders.repeats,
+        repeats[0],
+        repeats[1],
+        repeats[2],
+        repeats[3],
         stand.reading,
         stage_word(stand),
     ]

@@ -9,7 +9,7 @@ use native.Mathlib.Omega.{arith}
 use borrow.Author.Tests.{eq-eqb}
 use Rattle.settings.specs.declared.Settings.{Settings}
 use Rattle.rule.specs.Stamp.{silence, code-of}
-use Rattle.senders.specs.Senders.{neighbours, unheard-all}
+use Rattle.senders.specs.Senders.{unheard-all}
 use Rattle.board.specs.Stand.{stand, told, is-running}
 use Rattle.board.specs.State.{runs, start-refusal, fresh, started, answered, closed, closed-many, shut as shut-once, shut-many as shut-often}
 use Rattle.board.specs.declared.Board.{Board}
@@ -25,18 +25,17 @@ use Rattle.settings.specs.Limits.{Settings-plain}
 use Rattle.settings.proofs.Limits.{settings-plain}
 use Rattle.board.specs.Promises.{Start-plain}
 use Rattle.board.proofs.Promises.{number-is, start-plain}
-use Rattle.board_runs.specs.Reading.{closes, first-pulse, pulses-of, repeats-of, total, repeats-in, code-in, senders-of, Run, run, run-from, run-of, board-of}
+use Rattle.board_runs.specs.Reading.{closes, first-pulse, code-in, senders-of, Run, run, run-from, run-of, board-of}
 use Rattle.board_runs.specs.Program.{Call, Calls, none, hear, shut, shut-many, all-events, answer-in, Calls-read, Calls-fit, pulsed-once, times-pulsed, Pulses-once}
-use Rattle.board_runs.specs.Promises.{full-due, Pulses-in-time, Told-in-time}
+use Rattle.board_runs.specs.Promises.{full-due, In-time, Pulses-in-time, Told-in-time}
 use Rattle.board_runs.proofs.Laws.Events.{closes-++}
-use Rattle.board_runs.proofs.Laws.Senders.{by-count}
 use Rattle.board_runs.proofs.Laws.State.{Accepted, fits-as, pulsed-over}
 use Rattle.board_runs.proofs.Laws.Calls.{inside as stays-inside, Read-on, answer-is, after-closes, reads-on}
 use Rattle.board_runs.proofs.Laws.InTime.{begun, runs-on}
 
 -- what a start that is accepted leaves
 module _ (s : Settings) (n v : ℕ) (z : start-refusal s n v ≡ 0) where
-  accepts : Accepted s n v
+  pub accepts : Accepted s n v
   unfolding Start-plain Settings-plain
   accepts =
       let (l, i, k, m) = start-plain s n v .1 (number-is s n v ∙ z) in
@@ -50,21 +49,17 @@ module _ (s : Settings) (n v : ℕ) (z : start-refusal s n v ≡ 0) where
       pick true = refl
       pick false = refl
 
-  no-repeats : repeats-in n [] ≡ 0
-  unfolding repeats-in repeats-of pulses-of total neighbours
-  no-repeats = by-count n (accepts .two) (accepts .three) (λ q. rw q) (λ q. rw q)
-
   pub starts-as : fresh s n (stand v stage.Running) ≡ board-of s n v (run-of s n v [])
   unfolding fresh unheard-all board-of run-of run-from run senders-of closes stand
   starts-as =
       let e : v + 0 ≡ v = omega arith in
-      rw (silent-at 0, silent-at 1, silent-at 2, silent-at 3, no-repeats, e)
+      rw (silent-at 0, silent-at 1, silent-at 2, silent-at 3, e)
 
 module _ (s : Settings) (n v : ℕ) (r : Started) (e : r ≡ started s n v) (z : r .number ≡ 0) where
-  not-refused : start-refusal s n v ≡ 0
+  pub not-refused : start-refusal s n v ≡ 0
   not-refused = sym (number-is s n v) ∙ ap (λ (x : Started). x .number) (sym e) ∙ z
 
-  left-open : r .board ≡ fresh s n (stand v stage.Running)
+  pub left-open : r .board ≡ fresh s n (stand v stage.Running)
   unfolding started
   left-open = rw (e, eq-eqb (start-refusal s n v) 0 not-refused)
 
@@ -86,8 +81,8 @@ unfolding closes
 none-closed = refl
 
 pub pulses-in-time : Pulses-in-time
-unfolding Pulses-in-time board-of run-of run stand
-pulses-in-time s n v r cs t later e z c m =
+unfolding Pulses-in-time In-time board-of run-of run stand
+pulses-in-time s n v r cs t e z c later m =
     let a = accepts s n v (not-refused s n v r e z) in
     let es = all-events cs in
     let on = read-from s n v r e z c in

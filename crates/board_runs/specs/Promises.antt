@@ -33,16 +33,20 @@ pub record Correct (s : Settings) (count reading : ℕ) (es : List Event) : Type
 unfoldable pub full-due : Settings → (count reading : ℕ) → List Event → ℕ
 full-due s n v es = due s (first-pulse v 0 es) (neighbour-pulses n v es)
 
--- §E5.7 after any calls from a start, whatever events follow them: while the reading P + A is not closed the tile runs; once it is closed, the
--- tile has pulsed at that close
-unfoldable pub Pulses-in-time : Type 0
-Pulses-in-time =
-    (s : Settings) (n v : ℕ) (r : Started) (cs : List Call) (t : Board) (later : List Event) →
-    r ≡ started s n v → r .number ≡ 0 → Calls (r .board) cs t →
+-- §E5.7 a tile after some calls, whatever events follow them: while the reading P + A is not closed it runs; once it is closed, it has pulsed at that
+-- close
+unfoldable pub In-time : Settings → (count reading : ℕ) → List Call → (after : Board) → Type 0
+In-time s n v cs t =
+    (later : List Event) →
     let es = all-events cs ++ later in
     Correct s n v es →
     (v + closes (all-events cs) ≤ full-due s n v es → t .stand ≡ stand (v + closes (all-events cs)) Running)
     × (full-due s n v es < v + closes (all-events cs) → t .stand ≡ stand (full-due s n v es) Pulsed)
+
+-- §E5.7 so it is after any calls from a start
+unfoldable pub Pulses-in-time : Type 0
+Pulses-in-time =
+    (s : Settings) (n v : ℕ) (r : Started) (cs : List Call) (t : Board) → r ≡ started s n v → r .number ≡ 0 → Calls (r .board) cs t → In-time s n v cs t
 
 -- §E5.7 and so it is told: closes wait before that reading is closed, pulse where they close it, and are done after it
 unfoldable pub Told-in-time : Type 0

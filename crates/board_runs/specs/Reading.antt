@@ -1,15 +1,14 @@
--- What a plain reading of a list of events gives: each sender's first reading, the repeats, the open reading, whether and when the tile
--- pulsed. Assumes nothing.
+-- What a plain reading of a list of events gives: each sender's first reading, the open reading, whether and when the tile pulsed. Assumes nothing.
 --
 -- Throughout: settings s, count n, the first reading v.
 use mathlib.Core.Bool.{Bool, true, false, cond}
 use mathlib.Core.List.{List, [], _∷_, _++_, map}
-use Prim.Native.Nat.{ℕ, suc, _+_, _-_, min}
+use Prim.Native.Nat.{ℕ, suc, _+_}
 use lib.Dec.{eqb, leb}
 use Rattle.settings.specs.declared.Settings.{Settings}
 use Rattle.rule.specs.Stamp.{Stamp, heard, silent, silence, code-of}
 use Rattle.senders.specs.Due.{reaches}
-use Rattle.senders.specs.Senders.{last, neighbours, repeats-most}
+use Rattle.senders.specs.Senders.{last, neighbours}
 use Rattle.board.specs.Stand.{stand}
 use Rattle.board.specs.Events.{Event, pulse, close}
 use Rattle.board.specs.declared.Board.{Board}
@@ -32,25 +31,6 @@ first-pulse v k (close ∷ es) = first-pulse (suc v) k es
 -- §E5.6 the neighbours' stamps
 unfoldable pub neighbour-pulses : (count reading : ℕ) → List Event → List Stamp
 neighbour-pulses n v es = map (λ k. first-pulse v k es) (neighbours n)
-
--- §E5.6 how often a sender pulses
-unfoldable pub pulses-of : (sender : ℕ) → List Event → ℕ
-pulses-of k [] = 0
-pulses-of k (pulse j ∷ es) = cond (eqb j k) (suc (pulses-of k es)) (pulses-of k es)
-pulses-of k (close ∷ es) = pulses-of k es
-
--- §E5.6 its repeats: all of them but the first
-unfoldable pub repeats-of : (sender : ℕ) → List Event → ℕ
-repeats-of k es = pulses-of k es - 1
-
--- §E5.6 the sum of some numbers
-unfoldable pub total : List ℕ → ℕ
-total [] = 0
-total (x ∷ xs) = x + total xs
-
--- §E5.6 the repeats of own and of the neighbours, 65,535 where there are more
-unfoldable pub repeats-in : (count : ℕ) → List Event → ℕ
-repeats-in n es = min repeats-most (total (map (λ k. repeats-of k es) (0 ∷ neighbours n)))
 
 -- §E5.3 a close after these events pulses: P + A, by the stamps so far, is reached
 unfoldable pub pulses-after : Settings → (count reading : ℕ) → List Event → Bool
@@ -92,7 +72,7 @@ code-in n v es k = cond (leb k n) (code-of (first-pulse v k es)) silence
 
 -- §E5.6 what is known of the senders after events that count
 unfoldable pub senders-of : (count reading : ℕ) → List Event → Senders
-senders-of n v es = record { count = n; stamps = map (code-in n v es) (0 ∷ 1 ∷ 2 ∷ 3 ∷ []); repeats = repeats-in n es }
+senders-of n v es = record { count = n; stamps = map (code-in n v es) (0 ∷ 1 ∷ 2 ∷ 3 ∷ []) }
 
 -- §E5.6 the state that a run is read as
 unfoldable pub board-of : Settings → (count reading : ℕ) → Run → Board

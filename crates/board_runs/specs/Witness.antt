@@ -21,7 +21,7 @@ wall = settings 6 1 1 0 32 0 2
 
 -- §E5.7 a tile with two neighbours that has pulsed
 unfoldable pub state : Settings → (stamps : List ℕ) → (reading : ℕ) → Board
-state s xs v = record { settings = s; senders = record { count = 2; stamps = xs; repeats = 0 }; stand = stand v stage.Pulsed }
+state s xs v = record { settings = s; senders = record { count = 2; stamps = xs }; stand = stand v stage.Pulsed }
 
 -- §E5.7 neighbour 1 at 0 and own at 14, which is A - 9h later; neighbour 2 is faulty and comes at 60, long after the tile's pulse at 46
 unfoldable pub late-calls : List Call

@@ -312,7 +312,7 @@ pub extern "C" fn polzaintu_board_start(
     settings: &[u64; 7],
     count: u64,
     reading: u64,
-    board: &mut [u64; 15],
+    board: &mut [u64; 18],
 ) -> u32
     ensures number { λ r. ⌜ r ≡ Board·start-number (settings-from 0 (now (settings .entry))) count reading ⌝ }
     ensures board { λ r. ⌜ now (board .exit) ≡ Board·start-left (settings-from 0 (now (settings .entry))) count reading (now (board .entry)) ⌝ }
@@ -321,7 +321,7 @@ pub extern "C" fn polzaintu_board_start(
 }
 
 #[no_mangle]
-pub extern "C" fn polzaintu_board_pulse(board: &mut [u64; 15], sender: u64) -> u32
+pub extern "C" fn polzaintu_board_pulse(board: &mut [u64; 18], sender: u64) -> u32
     ensures number { λ r. ⌜ r ≡ pulse-number (now (board .entry)) sender ⌝ }
     ensures board { λ r. ⌜ now (board .exit) ≡ pulse-left (now (board .entry)) sender ⌝ }
 {
@@ -329,7 +329,7 @@ pub extern "C" fn polzaintu_board_pulse(board: &mut [u64; 15], sender: u64) -> u
 }
 
 #[no_mangle]
-pub extern "C" fn polzaintu_board_close(board: &mut [u64; 15], answer: &mut u32) -> u32
+pub extern "C" fn polzaintu_board_close(board: &mut [u64; 18], answer: &mut u32) -> u32
     ensures number { λ r. ⌜ r ≡ close-number (now (board .entry)) ⌝ }
     ensures board { λ r. ⌜ now (board .exit) ≡ close-left (now (board .entry)) ⌝ }
     ensures answer { λ r. ⌜ now (answer .exit) ≡ close-answer (now (board .entry)) (now (answer .entry)) ⌝ }
@@ -338,7 +338,7 @@ pub extern "C" fn polzaintu_board_close(board: &mut [u64; 15], answer: &mut u32)
 }
 
 #[no_mangle]
-pub extern "C" fn polzaintu_board_close_many(board: &mut [u64; 15], n: u64, answer: &mut u32) -> u32
+pub extern "C" fn polzaintu_board_close_many(board: &mut [u64; 18], n: u64, answer: &mut u32) -> u32
     ensures number { λ r. ⌜ r ≡ close-number (now (board .entry)) ⌝ }
     ensures board { λ r. ⌜ now (board .exit) ≡ many-left (now (board .entry)) n ⌝ }
     ensures answer { λ r. ⌜ now (answer .exit) ≡ many-answer (now (board .entry)) n (now (answer .entry)) ⌝ }
@@ -349,7 +349,7 @@ pub extern "C" fn polzaintu_board_close_many(board: &mut [u64; 15], n: u64, answ
 // The version as one number.
 #[no_mangle]
 pub extern "C" fn polzaintu_version() -> u32
-    ensures { λ r. ⌜ r ≡ 6000 ⌝ }
+    ensures { λ r. ⌜ r ≡ 7000 ⌝ }
 {
     version::NUMBER
 }

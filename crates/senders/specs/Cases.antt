@@ -7,7 +7,7 @@ use Prim.Native.Nat.{ℕ, _-_, _^_}
 use Rattle.settings.specs.Settings.{settings}
 use Rattle.settings.specs.declared.Settings.{Settings}
 use Rattle.rule.specs.Stamp.{heard, silent, silence}
-use Rattle.senders.specs.Senders.{last, stamp-at, neighbour-stamps, unheard, unheard-all, heard-by, fit}
+use Rattle.senders.specs.Senders.{last, stamp-at, neighbour-stamps, unheard, unheard-all, is-heard, heard-by, fit}
 use Rattle.senders.specs.Due.{reaches, due-code}
 use Rattle.senders.specs.declared.Senders.{Senders}
 
@@ -15,9 +15,9 @@ use Rattle.senders.specs.declared.Senders.{Senders}
 unfoldable pub wall : Settings
 wall = settings 6 1 100 10 400 0 12
 
--- §E5.9 so many neighbours, the stamps' numbers and the repeats
-unfoldable pub senders : (count : ℕ) → (stamps : List ℕ) → (repeats : ℕ) → Senders
-senders n xs r = record { count = n; stamps = xs; repeats = r }
+-- §E5.9 so many neighbours, and the stamps' numbers
+unfoldable pub senders : (count : ℕ) → (stamps : List ℕ) → Senders
+senders n xs = record { count = n; stamps = xs }
 
 -- §E5.1 nothing is heard at first: own and two neighbours, or three
 unfoldable pub Unheard-cases : Type 0
@@ -27,20 +27,14 @@ Unheard-cases =
     × (unheard (unheard-all 3) ≡ 4)
     × (neighbour-stamps (unheard-all 2) ≡ silent ∷ silent ∷ [])
 
--- §E5.2 the first pulse of a sender is its stamp, also at reading 0; another is a repeat, and the stamp stays
+-- §E5.2 the first pulse of a sender is its stamp, also at reading 0; a repeat leaves it
 unfoldable pub Heard-cases : Type 0
 Heard-cases =
-    (heard-by (unheard-all 2) 2 0 ≡ senders 2 (silence ∷ silence ∷ 0 ∷ silence ∷ []) 0)
-    × (heard-by (senders 2 (silence ∷ silence ∷ 0 ∷ silence ∷ []) 0) 2 7 ≡ senders 2 (silence ∷ silence ∷ 0 ∷ silence ∷ []) 1)
-    × (heard-by (senders 3 (5 ∷ 6 ∷ 7 ∷ silence ∷ []) 4) 3 9 ≡ senders 3 (5 ∷ 6 ∷ 7 ∷ 9 ∷ []) 4)
-    × (heard-by (senders 3 (5 ∷ 6 ∷ 7 ∷ silence ∷ []) 4) 0 9 ≡ senders 3 (5 ∷ 6 ∷ 7 ∷ silence ∷ []) 5)
-
--- §E5.2 the count at 65,534, at 65,535 and after
-unfoldable pub Count-cases : Type 0
-Count-cases =
-    (heard-by (senders 2 (5 ∷ silence ∷ silence ∷ silence ∷ []) 65534) 0 9 .repeats ≡ 65535)
-    × (heard-by (senders 2 (5 ∷ silence ∷ silence ∷ silence ∷ []) 65535) 0 9 .repeats ≡ 65535)
-    × (heard-by (senders 2 (5 ∷ silence ∷ silence ∷ silence ∷ []) 65535) 1 9 .repeats ≡ 65535)
+    (heard-by (unheard-all 2) 2 0 ≡ senders 2 (silence ∷ silence ∷ 0 ∷ silence ∷ []))
+    × (heard-by (senders 2 (silence ∷ silence ∷ 0 ∷ silence ∷ [])) 2 7 ≡ senders 2 (silence ∷ silence ∷ 0 ∷ silence ∷ []))
+    × (heard-by (senders 3 (5 ∷ 6 ∷ 7 ∷ silence ∷ [])) 3 9 ≡ senders 3 (5 ∷ 6 ∷ 7 ∷ 9 ∷ []))
+    × (heard-by (senders 3 (5 ∷ 6 ∷ 7 ∷ silence ∷ [])) 0 9 ≡ senders 3 (5 ∷ 6 ∷ 7 ∷ silence ∷ []))
+    × (map (is-heard (senders 3 (0 ∷ silence ∷ last ∷ silence ∷ []))) (0 ∷ 1 ∷ 2 ∷ 3 ∷ []) ≡ true ∷ false ∷ true ∷ false ∷ [])
 
 -- §E5.3 a reading reaches P + A at P + A, and stays there; so too where own or a neighbour is unheard. With two unheard none does
 unfoldable pub Reaches-cases : Type 0
@@ -55,15 +49,15 @@ Reaches-cases =
 -- §E5.3 the same of what is heard: a place past the count is not looked at, and silence is no number
 unfoldable pub Due-cases : Type 0
 Due-cases =
-    (due-code wall (senders 2 (136 ∷ 100 ∷ 100 ∷ silence ∷ []) 0) ≡ 512)
-    × (due-code wall (senders 2 (136 ∷ 100 ∷ 100 ∷ 900 ∷ []) 0) ≡ 512)
-    × (due-code wall (senders 3 (220 ∷ 100 ∷ 200 ∷ 300 ∷ []) 0) ≡ 608)
-    × (due-code wall (senders 2 (silence ∷ 100 ∷ 130 ∷ silence ∷ []) 0) ≡ 566)
-    × (due-code wall (senders 2 (90 ∷ silence ∷ 100 ∷ silence ∷ []) 0) ≡ 490)
-    × (due-code wall (senders 2 (90 ∷ silence ∷ silence ∷ 100 ∷ []) 0) ≡ silence)
+    (due-code wall (senders 2 (136 ∷ 100 ∷ 100 ∷ silence ∷ [])) ≡ 512)
+    × (due-code wall (senders 2 (136 ∷ 100 ∷ 100 ∷ 900 ∷ [])) ≡ 512)
+    × (due-code wall (senders 3 (220 ∷ 100 ∷ 200 ∷ 300 ∷ [])) ≡ 608)
+    × (due-code wall (senders 2 (silence ∷ 100 ∷ 130 ∷ silence ∷ [])) ≡ 566)
+    × (due-code wall (senders 2 (90 ∷ silence ∷ 100 ∷ silence ∷ [])) ≡ 490)
+    × (due-code wall (senders 2 (90 ∷ silence ∷ silence ∷ 100 ∷ [])) ≡ silence)
 
 -- §E5.9 two neighbours or three, and each stamp at most 2^42 - 1, or 2^64 - 1
 unfoldable pub Fit-cases : Type 0
 Fit-cases =
-    (map (λ (n : ℕ). fit (senders n (0 ∷ last ∷ silence ∷ silence ∷ []) 70000)) (1 ∷ 2 ∷ 3 ∷ 4 ∷ []) ≡ false ∷ true ∷ true ∷ false ∷ [])
-    × (map (λ (v : ℕ). fit (senders 2 (0 ∷ 0 ∷ v ∷ 0 ∷ []) 0)) ((2 ^ 42 - 1) ∷ 2 ^ 42 ∷ (2 ^ 64 - 2) ∷ (2 ^ 64 - 1) ∷ []) ≡ true ∷ false ∷ false ∷ true ∷ [])
+    (map (λ (n : ℕ). fit (senders n (0 ∷ last ∷ silence ∷ silence ∷ []))) (1 ∷ 2 ∷ 3 ∷ 4 ∷ []) ≡ false ∷ true ∷ true ∷ false ∷ [])
+    × (map (λ (v : ℕ). fit (senders 2 (0 ∷ 0 ∷ v ∷ 0 ∷ []))) ((2 ^ 42 - 1) ∷ 2 ^ 42 ∷ (2 ^ 64 - 2) ∷ (2 ^ 64 - 1) ∷ []) ≡ true ∷ false ∷ false ∷ true ∷ [])

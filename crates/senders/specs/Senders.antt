@@ -1,7 +1,7 @@
 -- What is known of a tile's senders. Assumes nothing.
-use mathlib.Core.Bool.{Bool, cond, _&&_, _||_}
+use mathlib.Core.Bool.{Bool, cond, not, _&&_, _||_}
 use mathlib.Core.List.{List, [], _∷_, map}
-use Prim.Native.Nat.{ℕ, _+_, min}
+use Prim.Native.Nat.{ℕ, _+_}
 use lib.Dec.{eqb, leb}
 use lib.ListN.{getD, set, replicate, take}
 use Rattle.rule.specs.Stamp.{Stamp, silence, stamp-of, unheard-of, unheard-in}
@@ -37,22 +37,15 @@ unheard x = unheard-of (own-stamp x) + unheard-in (neighbour-stamps x)
 
 -- §E5.1 nothing is heard
 unfoldable pub unheard-all : (count : ℕ) → Senders
-unheard-all n = record { count = n; stamps = replicate 4 silence; repeats = 0 }
+unheard-all n = record { count = n; stamps = replicate 4 silence }
 
--- §E5.2 the largest count of repeats
-abbrev pub repeats-most : ℕ
-repeats-most = 65535
+-- §E5.2 a sender that has pulsed, so that its next pulse is a repeat
+unfoldable pub is-heard : Senders → (sender : ℕ) → Bool
+is-heard x k = not (eqb (code-at x k) silence)
 
--- §E5.2 one repeat more, 65,535 at most
-unfoldable pub one-more : (repeats : ℕ) → ℕ
-one-more n = min (n + 1) repeats-most
-
--- §E5.2 a pulse at a reading: the first of its sender is heard then, any other is a repeat and changes nothing else
+-- §E5.2 a pulse at a reading: the first of its sender is heard then, a repeat changes nothing
 unfoldable pub heard-by : Senders → (sender reading : ℕ) → Senders
-heard-by x k v =
-    cond (eqb (code-at x k) silence)
-    (record { count = x .count; stamps = set (x .stamps) k v; repeats = x .repeats })
-    (record { count = x .count; stamps = x .stamps; repeats = one-more (x .repeats) })
+heard-by x k v = cond (is-heard x k) x (record { count = x .count; stamps = set (x .stamps) k v })
 
 -- §E5.9 a number that is a stamp's: silence, or a reading
 unfoldable pub stamp-fits : ℕ → Bool

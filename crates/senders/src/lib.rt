@@ -9,7 +9,7 @@ ghost use mathlib.Core.Bool.{true};
 ghost use Prim.Native.Nat.{_<_};
 ghost use Rattle.settings.specs.Settings.{settings-refusal};
 ghost use Rattle.rule.specs.Stamp.{unheard-of, stamp-of, code-of, earliest, latest};
-ghost use Rattle.senders.specs.Senders.{unheard-all, stamp-fits, fit, neighbour-stamps, unheard, heard-by};
+ghost use Rattle.senders.specs.Senders.{unheard-all, stamp-fits, fit, neighbour-stamps, unheard, is-heard, heard-by};
 ghost use Rattle.senders.specs.Due.{due-code};
 
 pub struct Senders {
@@ -17,15 +17,10 @@ pub struct Senders {
     pub count: u64,
     // The readings at which own and the neighbours were first heard, or SILENT. Places past the count stay SILENT.
     pub stamps: [u64; 4],
-    // The pulses that were not the first of their sender, up to 65,535.
-    pub repeats: u64,
 }
 
 // The last reading that opens.
 pub const LAST: u64 = 4_398_046_511_103;
-
-// Where the count of repeats stays.
-pub const REPEATS_MOST: u64 = 65_535;
 
 // The earliest and the latest of the neighbours' stamps.
 struct Ends {
@@ -41,7 +36,6 @@ impl Senders {
         Senders {
             count,
             stamps: [SILENT; 4],
-            repeats: 0,
         }
     }
 
@@ -57,24 +51,27 @@ impl Senders {
             & stamp_fits(self.stamps[3])
     }
 
-    // A pulse: the first of its sender makes the stamp, any other is a repeat.
+    // Whether a sender is heard, so that its next pulse is a repeat.
+    pub fn heard(self, place: usize) -> bool
+        requires { ⌜ place < 4 ⌝ }
+        ensures { λ r. ⌜ r ≡ is-heard self place ⌝ }
+    {
+        self.stamps[place] != SILENT
+    }
+
+    // A pulse: the first of its sender makes the stamp, a repeat changes nothing.
     pub fn hear(self, place: usize, reading: u64) -> Senders
         requires { ⌜ place < 4 ⌝ }
         ensures { λ r. ⌜ r ≡ heard-by self place reading ⌝ }
     {
-        let mut stamps = self.stamps;
-        if stamps[place] == SILENT {
-            stamps[place] = reading;
-            return Senders {
-                count: self.count,
-                stamps,
-                repeats: self.repeats,
-            };
+        if self.heard(place) {
+            return self;
         }
+        let mut stamps = self.stamps;
+        stamps[place] = reading;
         Senders {
             count: self.count,
             stamps,
-            repeats: smaller(self.repeats, REPEATS_MOST - 1) + 1,
         }
     }
 

@@ -1,5 +1,5 @@
-//! Runs of a tile: at which close it pulses, from its senders' stamps, and closes at once beside
-//! closes one by one.
+//! Runs of a tile: at which close it pulses, from its senders' stamps, whatever the repeats, and
+//! closes at once beside closes one by one.
 
 use crate::board::{hear, resumed, started};
 use crate::common::{settings, PRINTED};
@@ -11,25 +11,40 @@ const LATEST: u64 = (1 << 41) - 1;
 const LAST: u64 = (1 << 42) - 1;
 const UNHEARD: u64 = u64::MAX;
 
-/// The reading at whose close a tile pulses that starts at a reading and hears these stamps, at each
-/// reading in this order of the senders. It waits at every close before.
-fn pulses_at(limits: Limits, first: u64, stamps: &[Option<u64>], order: &[usize]) -> u64 {
-    let count = stamps.len() as u64 - 1;
-    let mut board = Board::start(&settings(limits), count, first).expect("a start");
+/// A tile that goes on from its open reading and hears these stamps, at each reading in this order
+/// of the senders, up to its pulse. The one that chatters pulses at every later reading too. The
+/// tile waits at every close before.
+fn run(
+    mut board: Board,
+    stamps: &[Option<u64>],
+    order: &[usize],
+    chatters: Option<usize>,
+) -> Board {
+    let first = board.reading();
     for reading in first..first + 10_000 {
         assert_eq!(board.reading(), reading);
         for &sender in order {
-            if stamps[sender] == Some(reading) {
+            let again = chatters == Some(sender) && stamps[sender].is_some_and(|s| s < reading);
+            if again || stamps[sender] == Some(reading) {
                 hear(&mut board, &[sender as u64]);
             }
         }
         match board.close() {
             Answer::Waits => {}
-            Answer::Pulses => return reading,
+            Answer::Pulses => return board,
             Answer::Done => panic!("a run that is over"),
         }
     }
     panic!("no pulse for {stamps:?}");
+}
+
+/// The reading at whose close a tile pulses that starts at a reading and hears these stamps.
+fn pulses_at(limits: Limits, first: u64, stamps: &[Option<u64>], order: &[usize]) -> u64 {
+    let count = stamps.len() as u64 - 1;
+    let board = Board::start(&settings(limits), count, first).expect("a start");
+    let pulsed = run(board, stamps, order, None);
+    assert_eq!(pulsed.state().repeats, [0; 4]);
+    pulsed.reading()
 }
 
 /// P + A, P as the tile operation has it for all stamps, those after the tile's own pulse too.
@@ -133,6 +148,42 @@ fn due_earlier_than_now() {
     for late in [None, Some(1_401)] {
         let stamps = [Some(1_000), Some(0), late];
         assert_eq!(pulses_at(PRINTED, 0, &stamps, &[0, 1, 2]), 1_400);
+    }
+}
+
+/// A sender that pulses at every reading from its stamp on, and counts that others wrote: the tile
+/// pulses where it does without.
+#[test]
+fn any_repeats() {
+    for (stamps, at) in [
+        (vec![Some(1_000), Some(0), Some(1_390)], 1_390),
+        (vec![Some(1_000), Some(0), None], 1_400),
+        (vec![None, Some(130), Some(100), Some(110)], 566),
+        (vec![Some(220), Some(200), Some(300), Some(100)], 608),
+    ] {
+        let order: Vec<usize> = (0..stamps.len()).collect();
+        let board = started(stamps.len() as u64 - 1, 0);
+        for chatters in 0..stamps.len() {
+            let mut repeats = [0; 4];
+            repeats[chatters] = stamps[chatters].map_or(0, |stamp| at - stamp);
+            let pulsed = run(board, &stamps, &order, Some(chatters));
+            assert_eq!((pulsed.reading(), pulsed.state().repeats), (at, repeats));
+        }
+        for repeats in [
+            [0, 65_535, 3, 0],
+            [65_535, 0, 65_534, 1],
+            [65_535; 4],
+            [1, 2, 3, u64::MAX],
+        ] {
+            let mut counted = resumed(State {
+                repeats,
+                ..*board.state()
+            });
+            let other = counted.pulse(stamps.len() as u64).unwrap_err();
+            assert_eq!(other.number(), 54);
+            let pulsed = run(counted, &stamps, &order, None);
+            assert_eq!((pulsed.reading(), pulsed.state().repeats), (at, repeats));
+        }
     }
 }
 

@@ -163,7 +163,7 @@ impl Reference {
             settings: limits(&numbers),
             count,
             stamps: [SILENT; 4],
-            repeats: 0,
+            repeats: [0; 4],
             reading,
             stage: 0,
         };
@@ -183,18 +183,21 @@ impl Reference {
             2 => board::Stage::Ended,
             _ => return None,
         };
-        fits.then(|| Reference {
-            board: board::Board {
-                settings,
-                stamps: state.stamps[..=state.count as usize]
-                    .iter()
-                    .map(|&stamp| (stamp != SILENT).then_some(stamp))
-                    .collect(),
-                repeats: state.repeats,
-                reading: state.reading,
-                stage,
-            },
-            from: state,
+        fits.then(|| {
+            let senders = ..=state.count as usize;
+            let stamps = state.stamps[senders].iter();
+            Reference {
+                board: board::Board {
+                    settings,
+                    stamps: stamps
+                        .map(|&stamp| (stamp != SILENT).then_some(stamp))
+                        .collect(),
+                    repeats: state.repeats[senders].to_vec(),
+                    reading: state.reading,
+                    stage,
+                },
+                from: state,
+            }
         })
     }
 
@@ -204,7 +207,9 @@ impl Reference {
         for (place, stamp) in state.stamps.iter_mut().zip(&self.board.stamps) {
             *place = stamp.unwrap_or(SILENT);
         }
-        state.repeats = self.board.repeats;
+        for (place, repeats) in state.repeats.iter_mut().zip(&self.board.repeats) {
+            *place = *repeats;
+        }
         state.reading = self.board.reading;
         state.stage = match self.board.stage {
             board::Stage::Running => 0,

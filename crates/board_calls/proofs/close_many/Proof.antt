@@ -8,14 +8,14 @@ use Rattle.board_calls.proofs.close_many.Tie as tie
 fits-in-requires : tie.Need-fits-in-requires
 fits-in-requires c κs = search needs
 
-board-in-requires : tie.Need-board-in-requires
-board-in-requires c κs = search needs
+tile-in-requires : tie.Need-tile-in-requires
+tile-in-requires c κs = search needs
 
 close-many-requires : tie.Need-close-many-requires
 close-many-requires c κs = search needs
 
-board-words-requires : tie.Need-board-words-requires
-board-words-requires c κs = search needs
+tile-words-requires : tie.Need-tile-words-requires
+tile-words-requires c κs = search needs
 
 answer-word-requires : tie.Need-answer-word-requires
 answer-word-requires c κs = search needs
@@ -30,8 +30,8 @@ returns c =
     let e = sym (f .before .fits-in .ensures) ∙ f .if1 .taken in (
       rw e,
       (
-        rw (e, w .board-words .ensures, m .close-many .ensures, b .board-in .ensures),
-        rw (e, c .answer-word .ensures, m .close-many .ensures, b .board-in .ensures),
+        rw (e, w .tile-words .ensures, m .close-many .ensures, b .tile-in .ensures),
+        rw (e, c .answer-word .ensures, m .close-many .ensures, b .tile-in .ensures),
       ),
     )
 
@@ -44,9 +44,9 @@ close-many-spec =
     tie.close
     (tie.spec
     fits-in-requires
-    board-in-requires
+    tile-in-requires
     close-many-requires
-    board-words-requires
+    tile-words-requires
     answer-word-requires
     returns
     returns-2)

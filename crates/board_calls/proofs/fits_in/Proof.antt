@@ -13,8 +13,8 @@ returns : tie.Need-returns
 unfolding fits-in
 returns c = rw (lt-leb _ 2 (c .if1 .taken))
 
-board-in-requires : tie.Need-board-in-requires
-board-in-requires c κs = search needs
+tile-in-requires : tie.Need-tile-in-requires
+tile-in-requires c κs = search needs
 
 fits-requires : tie.Need-fits-requires
 fits-requires c κs = search needs
@@ -23,8 +23,8 @@ returns-2 : tie.Need-returns-2
 unfolding fits-in
 returns-2 c =
     let e = c .before .before in
-    rw (le-leb (getD (denote.Ref.now (e .before .before .args .words)) 14 0) 2 (e .if1 .left), c .fits2 .ensures, c .before .board-in .ensures)
+    rw (le-leb (getD (denote.Ref.now (e .before .before .args .words)) 17 0) 2 (e .if1 .left), c .fits2 .ensures, c .before .tile-in .ensures)
 
 pub fits-in-spec : {M : Type 1} → statement M
 fits-in-spec =
-    tie.close (tie.spec element-copy-out-if1 returns board-in-requires fits-requires returns-2)
+    tie.close (tie.spec element-copy-out-if1 returns tile-in-requires fits-requires returns-2)

@@ -8,14 +8,14 @@ use Rattle.board_calls.proofs.pulse.Tie as tie
 fits-in-requires : tie.Need-fits-in-requires
 fits-in-requires c κs = search needs
 
-board-in-requires : tie.Need-board-in-requires
-board-in-requires c κs = search needs
+tile-in-requires : tie.Need-tile-in-requires
+tile-in-requires c κs = search needs
 
 pulse-requires : tie.Need-pulse-requires
 pulse-requires c κs = search needs
 
-board-words-requires : tie.Need-board-words-requires
-board-words-requires c κs = search needs
+tile-words-requires : tie.Need-tile-words-requires
+tile-words-requires c κs = search needs
 
 returns : tie.Need-returns
 unfolding pulse-number pulse-left
@@ -24,7 +24,7 @@ returns c =
     let b = m .before in
     let f = b .before .before in
     let e = sym (f .before .fits-in .ensures) ∙ f .if1 .taken in
-    (rw (e, m .pulse .ensures, b .board-in .ensures), rw (e, c .board-words .ensures, m .pulse .ensures, b .board-in .ensures))
+    (rw (e, m .pulse .ensures, b .tile-in .ensures), rw (e, c .tile-words .ensures, m .pulse .ensures, b .tile-in .ensures))
 
 returns-2 : tie.Need-returns-2
 unfolding pulse-number pulse-left
@@ -35,8 +35,8 @@ pulse-spec =
     tie.close
     (tie.spec
     fits-in-requires
-    board-in-requires
+    tile-in-requires
     pulse-requires
-    board-words-requires
+    tile-words-requires
     returns
     returns-2)

@@ -1,7 +1,7 @@
 -- `start` meets its contract. Assumes nothing.
 use mathlib.Core.Path.{_≡_, sym}
 use borrow.Author.Tests.{eq-eqb, ne-eqb}
-use Rattle.board.specs.State.{started}
+use Rattle.counted.specs.State.{started}
 use Rattle.board_calls.specs.Answers.{start-number, start-left}
 use borrow.Author.Needs.{needs}
 use Rattle.board_calls.proofs.start.Statement.{statement}
@@ -17,8 +17,8 @@ returns c =
     let a = c .before .before .args in
     (rw e, sym (rw (ne-eqb (started (a .settings) (a .count) (a .reading) .number) 0 (λ z. c .if1 .taken (rw e z)))))
 
-board-words-requires : tie.Need-board-words-requires
-board-words-requires c κs = search needs
+tile-words-requires : tie.Need-tile-words-requires
+tile-words-requires c κs = search needs
 
 returns-2 : tie.Need-returns-2
 unfolding start-number start-left
@@ -27,7 +27,7 @@ returns-2 c =
     let e = s .start .ensures in
     let a = s .before .args in
     let accepted : started (a .settings) (a .count) (a .reading) .number ≡ 0 = rw e at (c .before .if1 .left) in
-    (sym accepted, rw (c .board-words .ensures, e, eq-eqb (started (a .settings) (a .count) (a .reading) .number) 0 accepted))
+    (sym accepted, rw (c .tile-words .ensures, e, eq-eqb (started (a .settings) (a .count) (a .reading) .number) 0 accepted))
 
 pub start-spec : {M : Type 1} → statement M
-start-spec = tie.close (tie.spec start-requires returns board-words-requires returns-2)
+start-spec = tie.close (tie.spec start-requires returns tile-words-requires returns-2)

@@ -47,7 +47,7 @@ module _ {s : Settings} {n v : ℕ} (a : Accepted s n v) where
   answer-is es fs b e = rw (e, runs-as a (run-of s n v es) (inside es))
 
   -- one call more
-  after-pulse : (es : List Event) (k : ℕ) → pulsed (read es) k .board ≡ read (es ++ pulse k ∷ [])
+  pub after-pulse : (es : List Event) (k : ℕ) → pulsed (read es) k .board ≡ read (es ++ pulse k ∷ [])
   unfolding happens
   after-pulse es k = happens-of a es (pulse k)
 

@@ -1,15 +1,15 @@
--- A list of events and what follows it: closes, first pulses and repeats. Assumes nothing.
-use mathlib.Core.Path.{_≡_, refl, sym, _∙_, ap}
+-- A list of events and what follows it: closes and first pulses. Assumes nothing.
+use mathlib.Core.Path.{_≡_, refl, _∙_, ap}
 use mathlib.Core.Bool.{Bool, true, false, cond}
 use mathlib.Core.List.{List, [], _∷_, _++_}
-use Prim.Native.Nat.{ℕ, suc, _+_, _-_, _<_}
+use Prim.Native.Nat.{ℕ, suc, _+_}
 use lib.Dec.{eqb}
 use native.Mathlib.Omega.{arith}
 use borrow.Author.Tests.{eq-eqb, ne-eqb}
 use Rattle.rule.specs.Stamp.{Stamp, heard, silent, unheard-of, _≼_, in-order, last}
 use Rattle.rule.proofs.Laws.Stamp.{By, heard-by, unheard, ≼-refl}
 use Rattle.board.specs.Events.{Event, pulse, close}
-use Rattle.board_runs.specs.Reading.{closes, first-pulse, pulses-of, repeats-of}
+use Rattle.board_runs.specs.Reading.{closes, first-pulse}
 
 pub closes-++ : (es fs : List Event) → closes (es ++ fs) ≡ closes es + closes fs
 unfolding closes
@@ -87,69 +87,3 @@ module _ (v k : ℕ) (es : List Event) where
   pub first-closed : first-pulse v k (es ++ close ∷ []) ≡ first-pulse v k es
   unfolding first-pulse
   first-closed = first-++ v k es (close ∷ []) ∙ or-silent (first-pulse v k es)
-
--- pulses are counted
-pub pulses-++ : (k : ℕ) (es fs : List Event) → pulses-of k (es ++ fs) ≡ pulses-of k es + pulses-of k fs
-unfolding pulses-of
-pulses-++ k [] fs = omega arith
-pulses-++ k (pulse j ∷ es) fs = pick (eqb j k) (pulses-++ k es fs)
-  where
-    pick : (b : Bool) → pulses-of k (es ++ fs) ≡ pulses-of k es + pulses-of k fs →
-        cond b (suc (pulses-of k (es ++ fs))) (pulses-of k (es ++ fs)) ≡ cond b (suc (pulses-of k es)) (pulses-of k es) + pulses-of k fs
-    pick true e = omega arith
-    pick false e = e
-pulses-++ k (close ∷ es) fs = pulses-++ k es fs
-
--- none where the sender is silent, and one or more where it is heard
-pub none-of : (v k : ℕ) (es : List Event) → first-pulse v k es ≡ silent → pulses-of k es ≡ 0
-unfolding first-pulse pulses-of
-none-of v k [] e = refl
-none-of v k (pulse j ∷ es) e = pick (eqb j k) (none-of v k es) e
-  where
-    pick : (b : Bool) → (first-pulse v k es ≡ silent → pulses-of k es ≡ 0) → cond b (heard v) (first-pulse v k es) ≡ silent →
-        cond b (suc (pulses-of k es)) (pulses-of k es) ≡ 0
-    pick true f e = absurd (not-silent e)
-    pick false f e = f e
-none-of v k (close ∷ es) e = none-of (suc v) k es e
-
-pub some-of : (v k : ℕ) {a : ℕ} (es : List Event) → first-pulse v k es ≡ heard a → 0 < pulses-of k es
-unfolding first-pulse pulses-of
-some-of v k [] e = absurd (not-silent (sym e))
-some-of v k {a} (pulse j ∷ es) e = pick (eqb j k) (some-of v k es) e
-  where
-    pick : (b : Bool) → (first-pulse v k es ≡ heard a → 0 < pulses-of k es) → cond b (heard v) (first-pulse v k es) ≡ heard a →
-        0 < cond b (suc (pulses-of k es)) (pulses-of k es)
-    pick true f e = omega arith
-    pick false f e = f e
-some-of v k (close ∷ es) e = some-of (suc v) k es e
-
--- one more by its own pulse, and by no other event
-module _ (k : ℕ) (es : List Event) where
-  pulses-more : pulses-of k (es ++ pulse k ∷ []) ≡ pulses-of k es + 1
-  unfolding pulses-of
-  pulses-more = pulses-++ k es (pulse k ∷ []) ∙ rw (eq-eqb k k refl)
-
-  pulses-other : (j : ℕ) → (j ≡ k → ⊥) → pulses-of k (es ++ pulse j ∷ []) ≡ pulses-of k es
-  unfolding pulses-of
-  pulses-other j n = pulses-++ k es (pulse j ∷ []) ∙ rw (ne-eqb j k n) (omega arith)
-
-  pulses-closed : pulses-of k (es ++ close ∷ []) ≡ pulses-of k es
-  unfolding pulses-of
-  pulses-closed = pulses-++ k es (close ∷ []) ∙ omega arith
-
-  -- so are repeats, past the first
-  pub repeats-new : (v : ℕ) → first-pulse v k es ≡ silent → repeats-of k (es ++ pulse k ∷ []) ≡ repeats-of k es
-  unfolding repeats-of
-  repeats-new v e = omega (arith, pulses-more, none-of v k es e)
-
-  pub repeats-more : (v : ℕ) {a : ℕ} → first-pulse v k es ≡ heard a → repeats-of k (es ++ pulse k ∷ []) ≡ suc (repeats-of k es)
-  unfolding repeats-of
-  repeats-more v e = omega (arith, pulses-more, some-of v k es e)
-
-  pub repeats-other : (j : ℕ) → (j ≡ k → ⊥) → repeats-of k (es ++ pulse j ∷ []) ≡ repeats-of k es
-  unfolding repeats-of
-  repeats-other j n = omega (arith, pulses-other j n)
-
-  pub repeats-closed : repeats-of k (es ++ close ∷ []) ≡ repeats-of k es
-  unfolding repeats-of
-  repeats-closed = omega (arith, pulses-closed)

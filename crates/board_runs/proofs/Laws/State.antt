@@ -18,10 +18,8 @@ use Rattle.board.specs.Events.{Event, pulse, close, happens, after}
 use Rattle.board.specs.declared.Board.{Board}
 use Rattle.board.specs.declared.stand.Stage.{Stage}
 use Rattle.board.specs.declared.stand.Stage.the-variants.{Running, Pulsed, Ended}
-use Rattle.board.specs.Promises.{Over-ignores}
-use Rattle.board.specs.declared.Heard.{Heard}
 use Rattle.board.proofs.Laws.State.{shut-over}
-use Rattle.board.proofs.Promises.{over-ignores}
+use Rattle.board.proofs.Laws.Pulse.{ignored, turned-away, taken}
 use Rattle.board_runs.specs.Reading.{closes, first-pulse, pulses-after, last-after, Run, run, unless-over, run-from, run-of, senders-of, board-of}
 use Rattle.board_runs.proofs.Laws.Events.{closes-++}
 use Rattle.board_runs.proofs.Laws.Run.{continue, run-++, run-inside}
@@ -36,8 +34,7 @@ pub record Accepted (s : Settings) (n v : ℕ) : Type 0 where
 
 -- a tile whose run is over stays
 pub pulsed-over : (b : Board) (k : ℕ) → runs b ≡ false → (pulsed b k .board ≡ b) × (pulsed b k .number ≡ 0)
-unfolding Over-ignores
-pulsed-over b k e = let o = over-ignores b e .0 k in (ap (λ (r : Heard). r .board) o, ap (λ (r : Heard). r .number) o)
+pulsed-over b k e = rw (ignored b k e) (refl, refl)
 
 happens-over : (b : Board) → runs b ≡ false → (e : Event) → happens b e ≡ b
 unfolding happens closed answered
@@ -82,11 +79,11 @@ module _ {s : Settings} {n v : ℕ} (a : Accepted s n v) where
         rw (e, heard-wrong n v (a .two) (a .three) es k i)
 
     pub pulse-here : (k : ℕ) → (pulsed here k .board ≡ board-of s n v (run (es ++ pulse k ∷ []) Running)) × (pulsed here k .number ≡ cond (ltb n k) 54 0)
-    unfolding pulsed board-of run senders-of stand
+    unfolding board-of run senders-of
     pulse-here k =
         by-order k n
-        (λ i. (rw (runs-here, le-ltb n k i) (hears-here k i), rw (runs-here, le-ltb n k i)))
-        (λ i. (rw (runs-here, lt-ltb n k i) (wrong-here k i), rw (runs-here, lt-ltb n k i)))
+        (λ i. rw (taken here k runs-here i, le-ltb n k i) (hears-here k i, refl))
+        (λ i. rw (turned-away here k runs-here i, lt-ltb n k i) (wrong-here k i, refl))
 
     -- a close
     one-more : v + closes (es ++ close ∷ []) ≡ suc (v + closes es)

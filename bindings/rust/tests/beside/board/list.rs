@@ -116,7 +116,9 @@ fn damaged(rng: &mut Rng, mut state: State) -> State {
 fn late(rng: &mut Rng, mut state: State) -> State {
     let hold = state.settings.hold;
     state.stage = 0;
-    state.repeats = MOST_REPEATS - rng.below(3);
+    for repeats in &mut state.repeats {
+        *repeats = MOST_REPEATS - rng.below(3);
+    }
     if rng.chance(30) {
         return state;
     }

@@ -7,7 +7,7 @@ use wall_reference::board::{LAST_READING, MOST_REPEATS};
 use wall_reference::{LATEST_STAMP, SILENT};
 
 /// Each answer by its names.
-pub const ANSWERS: [&str; 39] = [
+pub const ANSWERS: [&str; 43] = [
     "a start",
     "1",
     "2",
@@ -26,6 +26,10 @@ pub const ANSWERS: [&str; 39] = [
     "a repeat",
     "a repeat that makes 65,535",
     "a repeat that leaves 65,535",
+    "a repeat of own",
+    "a repeat of the first neighbour",
+    "a repeat of the second neighbour",
+    "a repeat of the third neighbour",
     "a pulse once it is over",
     "another sender once it is over",
     "a close that waits without P",
@@ -63,7 +67,7 @@ impl Answer for Answered {
         let before = call.before.expect("a start comes first");
         let after = self.state.expect("a start comes first");
         match (call.event, told) {
-            (Event::Pulse(sender), _) => vec![pulse_name(&before, sender)],
+            (Event::Pulse(sender), _) => pulse_names(&before, sender),
             (Event::CloseMany(n), _) => {
                 let mut names = vec![many_name(&before, &after, n, told)];
                 names.extend(pulsed_names(&after, told));
@@ -83,18 +87,31 @@ fn number_name(number: u32) -> &'static str {
     named.copied().unwrap_or("another number")
 }
 
-fn pulse_name(before: &State, sender: u64) -> &'static str {
-    match (before.stage, before.repeats) {
-        (1.., _) if sender > before.count => "another sender once it is over",
-        (1.., _) => "a pulse once it is over",
-        _ if before.stamps[sender as usize] == SILENT && before.reading > LATEST_STAMP => {
-            "a first pulse after 2^41 - 1"
-        }
-        _ if before.stamps[sender as usize] == SILENT => "a first pulse",
-        (_, MOST_REPEATS) => "a repeat that leaves 65,535",
-        (_, repeats) if repeats + 1 == MOST_REPEATS => "a repeat that makes 65,535",
+fn pulse_names(before: &State, sender: u64) -> Vec<&'static str> {
+    let name = match before.stage {
+        1.. if sender > before.count => "another sender once it is over",
+        1.. => "a pulse once it is over",
+        _ if before.stamps[sender as usize] != SILENT => return repeat_names(before, sender),
+        _ if before.reading > LATEST_STAMP => "a first pulse after 2^41 - 1",
+        _ => "a first pulse",
+    };
+    vec![name]
+}
+
+/// What it makes of its sender's count, and whose it is.
+fn repeat_names(before: &State, sender: u64) -> Vec<&'static str> {
+    let count = match before.repeats[sender as usize] {
+        MOST_REPEATS => "a repeat that leaves 65,535",
+        repeats if repeats + 1 == MOST_REPEATS => "a repeat that makes 65,535",
         _ => "a repeat",
-    }
+    };
+    let whose = match sender {
+        0 => "a repeat of own",
+        1 => "a repeat of the first neighbour",
+        2 => "a repeat of the second neighbour",
+        _ => "a repeat of the third neighbour",
+    };
+    vec![count, whose]
 }
 
 fn close_name(before: &State, told: Told) -> &'static str {

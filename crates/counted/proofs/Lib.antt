@@ -1,0 +1,4 @@
+pub mod Laws
+pub mod Contract
+pub mod Promises
+pub mod Cases
