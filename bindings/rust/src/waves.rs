@@ -57,7 +57,7 @@ impl Waves {
         Ok(Waves(waves))
     }
 
-    /// Hands in the next wave and answers its seam, as [`seam::join`](crate::seam::join) does; or
+    /// Hands in the next wave and answers its seam, as [`seam::join`] does; or
     /// number 31, and then the waves held are as they were. An open wave takes a place too; once n
     /// are held, each takes that of the oldest.
     pub fn hand_in(&mut self, left: Option<u64>, right: Option<u64>) -> Result<Seam, Refusal> {
