@@ -119,7 +119,7 @@ impl Settings {
 #[cfg(test)]
 mod tests {
     use super::*;
-    use crate::cases::build::PRINTED;
+    use crate::cases::build::{DRIFTING, PRINTED};
 
     fn number(numbers: Numbers) -> u8 {
         Settings::new(numbers).map_or_else(|refused| refused.0, |_| 0)
@@ -159,19 +159,13 @@ mod tests {
         assert_eq!(fast.c(), 4); // 3.96...
         assert_eq!(Settings::new(fast).unwrap().j(), 33); // 32 + 0.32
         assert_eq!(Settings::new(PRINTED).unwrap().j(), 24);
-        let twelve = Numbers {
-            drift_limit: 10_000,
-            uncertainty: 8,
-            hold: 192,
-            ..PRINTED
-        };
-        assert_eq!(twelve.c(), 2); // 1.90...
-        assert_eq!(Settings::new(twelve).unwrap().j(), 25);
+        assert_eq!(DRIFTING.c(), 2); // 1.90...
+        assert_eq!(Settings::new(DRIFTING).unwrap().j(), 25);
         // A quotient without remainder isn't rounded: 10,000 × 202 / 1,010,000 is 2.
         assert_eq!(
             Numbers {
                 hold: 202,
-                ..twelve
+                ..DRIFTING
             }
             .c(),
             2
@@ -179,7 +173,7 @@ mod tests {
         assert_eq!(
             Numbers {
                 hold: 203,
-                ..twelve
+                ..DRIFTING
             }
             .c(),
             3

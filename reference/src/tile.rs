@@ -30,7 +30,7 @@ pub fn tile(settings: &Settings, stamps: &Stamps) -> Result<Answer, Refused> {
 #[cfg(test)]
 mod tests {
     use super::*;
-    use crate::cases::build::PRINTED;
+    use crate::cases::build::{DRIFTING, PRINTED};
     use crate::rule::Letter;
     use crate::settings::Numbers;
 
@@ -104,13 +104,7 @@ mod tests {
 
     #[test]
     fn the_case_with_drift_limit_10_000() {
-        let fast = Numbers {
-            drift_limit: 10_000,
-            uncertainty: 8,
-            hold: 192,
-            ..PRINTED
-        };
-        let fast = Settings::new(fast).unwrap();
+        let fast = Settings::new(DRIFTING).unwrap();
         assert_eq!((fast.h(), fast.j()), (12, 25));
         answers(&fast, heard(137, 100, 100), 112, Letter::Middle);
         answers(&settings(), heard(137, 100, 100), 113, Letter::Back);

@@ -1,7 +1,7 @@
 //! Runs of a tile (§E5.3): at which close it pulses, from its senders' stamps, whatever the repeats (§E6.3).
 
 use wall_reference::board::{Answer, Board};
-use wall_reference::cases::build::PRINTED;
+use wall_reference::cases::build::{DRIFTING, PRINTED};
 use wall_reference::generate::rng::Rng;
 use wall_reference::rule::forward;
 use wall_reference::settings::{Numbers, Settings};
@@ -114,13 +114,7 @@ fn the_tile_cases_as_events() {
     pulses_a_after(&printed, None, &[at(100), at(130)], 166);
     pulses_a_after(&printed, at(90), &[None, at(100)], 90);
     pulses_a_after(&printed, at(50), &[None, at(100)], 64);
-    let fast = Numbers {
-        drift_limit: 10_000,
-        uncertainty: 8,
-        hold: 192,
-        ..PRINTED
-    };
-    let fast = Settings::new(fast).unwrap();
+    let fast = Settings::new(DRIFTING).unwrap();
     pulses_a_after(&fast, at(137), &[at(100); 2], 112);
 }
 

@@ -8,7 +8,7 @@ use Rattle.senders.specs.Senders.{last}
 use Rattle.board.specs.Stand.{stand, closing, told, is-running}
 use Rattle.board.specs.State.{looked-at, reached, fits, runs, start-tests, start-refusal, fresh, started, hears, pulsed, at, shut, shut-many, answered, closed, closed-many}
 use Rattle.board.specs.Closing.{end-of, closings, jumped}
-use Rattle.board.specs.Cases.{wall, drifting, Start-cases, state, Fresh-case, Arrival, _at_, arrives, arrive, Pulses-at, In-each, Tile-cases, Three-cases, Late-start-case, Unheard-cases, Repeat-cases, Told-cases, Sender-cases, Over-cases, late, Last-cases}
+use Rattle.board.specs.Cases.{wall, drifting, Start-cases, state, Fresh-case, Refused-case, Arrival, _at_, arrives, arrive, Pulses-at, In-each, Tile-cases, Three-cases, Late-start-case, Unheard-cases, Repeat-cases, Told-cases, Sender-cases, Over-cases, late, Last-cases}
 use Rattle.board.specs.declared.Board.{Board}
 use Rattle.board.specs.declared.stand.Stage.the-variants as stage
 use Rattle.board.proofs.Laws.Closing.{jumps}
@@ -30,6 +30,10 @@ start-cases = (refl, refl, refl, refl, refl, refl, refl)
 pub fresh-case : Fresh-case
 unfolding computed Fresh-case
 fresh-case = refl
+
+pub refused-case : Refused-case
+unfolding computed Refused-case
+refused-case = refl
 
 -- arrivals with many closes at once between them
 unfoldable hops : Board → Arrival → Board

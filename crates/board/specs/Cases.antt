@@ -42,6 +42,10 @@ state n xs v x = record { settings = wall; senders = record { count = n; stamps 
 unfoldable pub Fresh-case : Type 0
 Fresh-case = started wall 3 7 .board ≡ state 3 (silence ∷ silence ∷ silence ∷ silence ∷ []) 7 stage.Running
 
+-- §E5.1 one that is turned away is over
+unfoldable pub Refused-case : Type 0
+Refused-case = started wall 2 (2 ^ 41) ≡ record { number = 12; board = state 2 (silence ∷ silence ∷ silence ∷ silence ∷ []) (2 ^ 41) stage.Ended }
+
 infix 70 _at_
 -- §E5.6 a pulse of a sender at a reading
 pub data Arrival : Type 0 where

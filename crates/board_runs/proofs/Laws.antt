@@ -1,7 +1,7 @@
 -- The laws of the definitions, each file over one of them.
 pub mod Events
 pub mod Run
-pub mod Four
+pub mod Places
 pub mod Senders
 pub mod State
 pub mod Calls

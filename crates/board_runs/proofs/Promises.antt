@@ -3,7 +3,6 @@ use mathlib.Core.Path.{_≡_, refl, sym, _∙_, ap}
 use mathlib.Core.Bool.{Bool, true, false, cond}
 use mathlib.Core.List.{List, [], _++_, append-assoc}
 use Prim.Native.Nat.{ℕ, zero, suc, _+_, _≤_}
-use lib.Dec.{leb}
 use lib.ListN.{replicate}
 use native.Mathlib.Omega.{arith}
 use borrow.Author.Tests.{eq-eqb}
@@ -25,10 +24,11 @@ use Rattle.settings.specs.Limits.{Settings-plain}
 use Rattle.settings.proofs.Limits.{settings-plain}
 use Rattle.board.specs.Promises.{Start-plain}
 use Rattle.board.proofs.Promises.{number-is, start-plain}
-use Rattle.board_runs.specs.Reading.{closes, first-pulse, code-in, senders-of, Run, run, run-from, run-of, board-of}
+use Rattle.board_runs.specs.Reading.{closes, first-pulse, senders-of, Run, run, run-from, run-of, board-of}
 use Rattle.board_runs.specs.Program.{Call, Calls, none, hear, shut, shut-many, all-events, answer-in, Calls-read, Calls-fit, pulsed-once, times-pulsed, Pulses-once}
 use Rattle.board_runs.specs.Promises.{full-due, In-time, Pulses-in-time, Told-in-time}
 use Rattle.board_runs.proofs.Laws.Events.{closes-++}
+use Rattle.board_runs.proofs.Laws.Places.{places-none}
 use Rattle.board_runs.proofs.Laws.State.{Accepted, fits-as, pulsed-over}
 use Rattle.board_runs.proofs.Laws.Calls.{inside as stays-inside, Read-on, answer-is, after-closes, reads-on}
 use Rattle.board_runs.proofs.Laws.InTime.{begun, runs-on}
@@ -41,19 +41,11 @@ module _ (s : Settings) (n v : ℕ) (z : start-refusal s n v ≡ 0) where
       let (l, i, k, m) = start-plain s n v .1 (number-is s n v ∙ z) in
       record { checked = settings-plain s .0 l; two = i; three = k; early = omega (arith, m) }
 
-  silent-at : (k : ℕ) → code-in n v [] k ≡ silence
-  unfolding code-in code-of first-pulse
-  silent-at k = pick (leb k n)
-    where
-      pick : (b : Bool) → cond b silence silence ≡ silence
-      pick true = refl
-      pick false = refl
-
   pub starts-as : fresh s n (stand v stage.Running) ≡ board-of s n v (run-of s n v [])
-  unfolding fresh unheard-all board-of run-of run-from run senders-of closes stand
+  unfolding fresh unheard-all board-of run-of run-from run senders-of closes stand first-pulse code-of
   starts-as =
       let e : v + 0 ≡ v = omega arith in
-      rw (silent-at 0, silent-at 1, silent-at 2, silent-at 3, e)
+      rw (e, places-none n silence (λ k. code-of (first-pulse v k [])) (λ k. refl))
 
 module _ (s : Settings) (n v : ℕ) (r : Started) (e : r ≡ started s n v) (z : r .number ≡ 0) where
   pub not-refused : start-refusal s n v ≡ 0

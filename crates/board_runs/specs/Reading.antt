@@ -66,13 +66,13 @@ run-from s n v before (close ∷ es) =
 unfoldable pub run-of : Settings → (count reading : ℕ) → List Event → Run
 run-of s n v es = run-from s n v [] es
 
--- §E5.6 the number at a sender's place: that of its stamp; a place past the count is silent
-unfoldable pub code-in : (count reading : ℕ) → List Event → (sender : ℕ) → ℕ
-code-in n v es k = cond (leb k n) (code-of (first-pulse v k es)) silence
+-- §E5.6 a number for own and for each neighbour, at four places; one past the count holds a number of its own
+unfoldable pub at-places : (count past : ℕ) → (of-sender : ℕ → ℕ) → List ℕ
+at-places n d f = map (λ k. cond (leb k n) (f k) d) (0 ∷ 1 ∷ 2 ∷ 3 ∷ [])
 
--- §E5.6 what is known of the senders after events that count
+-- §E5.6 what is known of the senders after events that count: their stamps' numbers, and silence past the count
 unfoldable pub senders-of : (count reading : ℕ) → List Event → Senders
-senders-of n v es = record { count = n; stamps = map (code-in n v es) (0 ∷ 1 ∷ 2 ∷ 3 ∷ []) }
+senders-of n v es = record { count = n; stamps = at-places n silence (λ k. code-of (first-pulse v k es)) }
 
 -- §E5.6 the state that a run is read as
 unfoldable pub board-of : Settings → (count reading : ℕ) → Run → Board

@@ -3,16 +3,16 @@ use mathlib.Core.Path.{refl}
 use Rattle.board.specs.State.{shut as shut-once, shut-many as shut-often}
 use Rattle.board.specs.State as board
 use Rattle.board.proofs.Cases.{board-computed}
-use Rattle.board_runs.specs.Reading.{closes, first-pulse, neighbour-pulses, pulses-after, last-after, run, unless-over, run-from, run-of}
+use Rattle.board_runs.specs.Reading.{closes, first-pulse, neighbour-pulses, pulses-after, last-after, run, unless-over, run-from, run-of, at-places}
 use Rattle.board_runs.specs.Program.{events-of, all-events}
-use Rattle.counted.specs.State.{one-more, raised, counted, started, pulsed, closed, closed-many}
-use Rattle.counted.specs.Reading.{pulses-of, repeats-of, count-in, counts-in}
+use Rattle.counted.specs.State.{one-more, raised, counted, started, pulsed, uncounted, closed, closed-many}
+use Rattle.counted.specs.Reading.{pulses-of, repeats-of, count-of, counts-in}
 use Rattle.counted.specs.Program.{none, hear, shut, shut-many}
-use Rattle.counted.specs.Cases.{wall, tile-of, tile, after-each, Start-case, Place-cases, Most-cases, Wrong-case, Over-cases, Reading-cases, brief, chatter, Chatter-met}
+use Rattle.counted.specs.Cases.{wall, tile-of, tile, after-each, Start-case, Place-cases, Most-cases, Full-case, Wrong-case, Over-cases, Reading-cases, brief, chatter, Chatter-met}
 
 -- what a tile with its counts is computed by; the crates above go on from it
 unfoldable pub counted-computed : Unit {0}
-unfolding board-computed shut-once shut-often board.closed board.closed-many one-more raised counted started pulsed closed closed-many
+unfolding board-computed shut-once shut-often board.closed board.closed-many one-more raised counted started pulsed uncounted closed closed-many
 counted-computed = tt
 
 unfoldable computed : Unit {0}
@@ -31,6 +31,10 @@ pub most-cases : Most-cases
 unfolding computed Most-cases
 most-cases = refl
 
+pub full-case : Full-case
+unfolding computed Full-case
+full-case = refl
+
 pub wrong-case : Wrong-case
 unfolding computed Wrong-case
 wrong-case = refl
@@ -41,7 +45,7 @@ over-cases = (refl, refl, refl)
 
 -- what a reading is computed by
 unfoldable read : Unit {0}
-unfolding pulses-of repeats-of count-in counts-in
+unfolding at-places pulses-of repeats-of count-of counts-in
 read = tt
 
 pub reading-cases : Reading-cases

@@ -18,11 +18,12 @@ use Rattle.board_runs.proofs.Laws.State.{Accepted}
 use Rattle.board_runs.proofs.Laws.Calls.{inside, after-pulse, after-closes}
 use Rattle.board_runs.proofs.Promises.{accepts, not-refused, left-open, starts-as}
 use Rattle.board_runs.proofs.Promises as proofs
-use Rattle.counted.specs.State.{counted, started, pulsed, closed, closed-many}
+use Rattle.counted.specs.State.{counted, started, pulsed, uncounted, closed, closed-many}
 use Rattle.counted.specs.Reading.{counts-in}
 use Rattle.counted.specs.Program.{Calls, none, hear, shut, shut-many, Counts-read, Start-apart, Calls-apart, Carried, Pulses-in-time}
 use Rattle.counted.specs.Promises.{Wrong-kept, Over-ignores}
 use Rattle.counted.specs.declared.Counted.{Counted}
+use Rattle.counted.proofs.Laws.Close.{one-close}
 use Rattle.counted.proofs.Laws.Counts.{counts-none}
 use Rattle.counted.proofs.Laws.Run.{pulse-counts, closes-count}
 
@@ -32,7 +33,7 @@ unfolding Start-apart started counted
 start-apart s n v = (refl, refl)
 
 apart : {x t : Counted} {cs : List Call} → Calls x cs t → plain.Calls (x .board) cs (t .board)
-unfolding pulsed closed closed-many counted
+unfolding pulsed closed closed-many uncounted counted
 apart none = plain.none
 apart {x} (hear k r e c) = let next = apart c in rw e (plain.hear k (board.pulsed (x .board) k) refl (rw e at next))
 apart {x} (shut r e c) = let next = apart c in rw e (plain.shut (board.closed (x .board)) refl (rw e at next))
@@ -52,11 +53,6 @@ carried Q f s n v r cs t e z c =
 pub pulses-in-time : Pulses-in-time
 unfolding Pulses-in-time Carried promises.Pulses-in-time
 pulses-in-time = carried In-time proofs.pulses-in-time
-
--- one close is one of many
-one-close : (x : Counted) → closed x ≡ closed-many x 1
-unfolding closed closed-many board-promises.One-close
-one-close x = rw (board-proofs.one-close (x .board))
 
 -- the counts
 module _ {s : Settings} {n v : ℕ} (a : Accepted s n v) where
@@ -78,7 +74,7 @@ module _ {s : Settings} {n v : ℕ} (a : Accepted s n v) where
   }
 
   after-some-closes : {es : List Event} {x : Counted} (k : ℕ) → Reads es x → Reads (es ++ replicate k close) (closed-many x k .tile)
-  unfolding closed-many counted run-of board.closed-many board.answered
+  unfolding closed-many uncounted counted run-of board.closed-many board.answered
   after-some-closes {es} {x} k h = record {
     state = ap (λ b. board.shut-many k b) (h .state) ∙ after-closes a es k;
     counts-are = h .counts-are ∙ rw (run-++ s n v [] es (replicate k close)) (sym (closes-count s n v k (run-of s n v es)));
@@ -109,7 +105,7 @@ unfolding Wrong-kept pulsed counted board-promises.Wrong-kept
 wrong-kept x k e = rw (board-proofs.wrong-kept (x .board) k e)
 
 pub over-ignores : Over-ignores
-unfolding Over-ignores pulsed closed-many counted board-promises.Over-ignores
+unfolding Over-ignores pulsed closed-many uncounted counted board-promises.Over-ignores
 over-ignores x e =
     let o = board-proofs.over-ignores (x .board) e in
     (λ k. rw (o .0 k), λ n. rw (o .1 n))

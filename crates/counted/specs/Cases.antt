@@ -52,6 +52,12 @@ Most-cases =
     after-each (tile 3 (5 ∷ 6 ∷ 7 ∷ 8 ∷ []) (65535 ∷ 65534 ∷ 65533 ∷ 0 ∷ []) 9 stage.Running) (0 ∷ 1 ∷ 2 ∷ 3 ∷ [])
     ≡ (65535 ∷ 65534 ∷ 65533 ∷ 0 ∷ []) ∷ (65535 ∷ 65535 ∷ 65533 ∷ 0 ∷ []) ∷ (65535 ∷ 65534 ∷ 65534 ∷ 0 ∷ []) ∷ (65535 ∷ 65534 ∷ 65533 ∷ 1 ∷ []) ∷ []
 
+-- §E6.3 a full count turns no sender away
+unfoldable pub Full-case : Type 0
+Full-case =
+    let x = tile 3 (5 ∷ 6 ∷ 7 ∷ 8 ∷ []) (65535 ∷ 65535 ∷ 65535 ∷ 65535 ∷ []) 9 stage.Running in
+    pulsed x 0 ≡ record { number = 0; tile = x }
+
 -- §E6.1 a third neighbour where there are two is 54, and leaves all
 unfoldable pub Wrong-case : Type 0
 Wrong-case =

@@ -1,9 +1,10 @@
 -- What a plain reading of a list of events counts. Assumes nothing.
 use mathlib.Core.Bool.{cond}
-use mathlib.Core.List.{List, [], _∷_, map}
+use mathlib.Core.List.{List, [], _∷_}
 use Prim.Native.Nat.{ℕ, suc, _-_, min}
-use lib.Dec.{eqb, leb}
+use lib.Dec.{eqb}
 use Rattle.board.specs.Events.{Event, pulse, close}
+use Rattle.board_runs.specs.Reading.{at-places}
 use Rattle.counted.specs.State.{most}
 
 -- §E6.2 how often a sender pulses
@@ -16,10 +17,10 @@ pulses-of k (close ∷ es) = pulses-of k es
 unfoldable pub repeats-of : (sender : ℕ) → List Event → ℕ
 repeats-of k es = pulses-of k es - 1
 
--- §E6.2 the count of a sender: its repeats, 65,535 where there are more; 0 past the neighbour count
-unfoldable pub count-in : (count : ℕ) → List Event → (sender : ℕ) → ℕ
-count-in n es k = cond (leb k n) (min (repeats-of k es) most) 0
+-- §E6.2 the count of a sender: its repeats, 65,535 where there are more
+unfoldable pub count-of : (sender : ℕ) → List Event → ℕ
+count-of k es = min (repeats-of k es) most
 
--- §E6.2 the four counts
+-- §E6.2 the four counts; one past the neighbour count is 0
 unfoldable pub counts-in : (count : ℕ) → List Event → List ℕ
-counts-in n es = map (count-in n es) (0 ∷ 1 ∷ 2 ∷ 3 ∷ [])
+counts-in n es = at-places n 0 (λ k. count-of k es)

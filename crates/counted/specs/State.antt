@@ -6,6 +6,7 @@ use lib.ListN.{getD, set, replicate}
 use Rattle.settings.specs.declared.Settings.{Settings}
 use Rattle.board.specs.State as board
 use Rattle.board.specs.declared.Board.{Board}
+use Rattle.board.specs.declared.Closed as board-closed
 use Rattle.counted.specs.declared.Counted.{Counted}
 use Rattle.counted.specs.declared.Started.{Started}
 use Rattle.counted.specs.declared.Heard.{Heard}
@@ -39,14 +40,14 @@ pulsed x k =
     let r = board.pulsed (x .board) k in
     record { number = r .number; tile = counted (r .board) (cond (r .repeat) (raised (x .repeats) k) (x .repeats)) }
 
--- §E6.1 a close counts nothing
-unfoldable pub closed : Counted → Closed
-closed x =
-    let r = board.closed (x .board) in
-    record { answer = r .answer; tile = counted (r .board) (x .repeats) }
+-- §E6.1 closes count nothing
+unfoldable pub uncounted : Counted → board-closed.Closed → Closed
+uncounted x r = record { answer = r .answer; tile = counted (r .board) (x .repeats) }
 
--- §E6.1 nor do n closes
+-- §E6.1 one close
+unfoldable pub closed : Counted → Closed
+closed x = uncounted x (board.closed (x .board))
+
+-- §E6.1 n closes
 unfoldable pub closed-many : Counted → (n : ℕ) → Closed
-closed-many x n =
-    let r = board.closed-many (x .board) n in
-    record { answer = r .answer; tile = counted (r .board) (x .repeats) }
+closed-many x n = uncounted x (board.closed-many (x .board) n)

@@ -76,14 +76,7 @@ impl Counted {
     pub fn close(self) -> Closed
         ensures { λ r. ⌜ r ≡ closed self ⌝ }
     {
-        let repeats = self.repeats;
-        let closed = self.board.close();
-        let answer = closed.answer;
-        let board = closed.board;
-        Closed {
-            answer,
-            tile: Counted { board, repeats },
-        }
+        self.close_many(1)
     }
 
     // As many closes, one by one, with no pulse between them.

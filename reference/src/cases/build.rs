@@ -16,6 +16,14 @@ pub const PRINTED: Numbers = Numbers {
     unit: 12,
 };
 
+/// The settings of the tile case whose clocks drift (§14.1).
+pub const DRIFTING: Numbers = Numbers {
+    drift_limit: 10_000,
+    uncertainty: 8,
+    hold: 192,
+    ..PRINTED
+};
+
 /// The wall that is printed whole, with so many rows.
 pub fn printed(rows: u32) -> Description {
     let mut wall = quiet(Numbers { rows, ..PRINTED });

@@ -4,16 +4,16 @@ use mathlib.Core.Bool.{true, false}
 use mathlib.Core.List.{List, [], _∷_, _++_, map}
 use Prim.Native.Nat.{ℕ, _+_, _≤_, _<_}
 use native.Mathlib.Omega.{arith}
-use borrow.Author.Tests.{eq-eqb, ne-eqb, le-leb, lt-leb}
+use borrow.Author.Tests.{eq-eqb, ne-eqb, le-leb}
 use Rattle.settings.proofs.Laws.Cases.{by-order, by-equal}
 use Rattle.rule.specs.Stamp.{Stamp, heard, silent, silence, stamp-of, code-of}
 use Rattle.rule.proofs.Laws.Stamp.{By, heard-by as by, unheard}
 use Rattle.rule.proofs.Laws.Coded.{code-stamp}
 use Rattle.senders.specs.Senders.{last, neighbours, code-at, stamp-at, neighbour-stamps, is-heard, heard-by, stamp-fits, fit}
 use Rattle.board.specs.Events.{Event, pulse, close}
-use Rattle.board_runs.specs.Reading.{closes, first-pulse, neighbour-pulses, code-in, senders-of}
+use Rattle.board_runs.specs.Reading.{closes, first-pulse, neighbour-pulses, senders-of}
 use Rattle.board_runs.proofs.Laws.Events.{first-between, first-new, first-kept, first-other, first-closed}
-use Rattle.board_runs.proofs.Laws.Four.{four-same, four-set, four-at}
+use Rattle.board_runs.proofs.Laws.Places.{place-of, place-past, places-same, places-set}
 
 -- a claim of two neighbours or three, by each
 pub by-count {ℓ} : {C : Type ℓ} (n : ℕ) → 2 ≤ n → n ≤ 3 → (n ≡ 2 → C) → (n ≡ 3 → C) → C
@@ -27,25 +27,14 @@ map-three : (f : ℕ → Stamp) (n : ℕ) → n ≡ 3 → map f (neighbours n) �
 unfolding neighbours
 map-three f n e = rw e
 
--- the number at a sender's place: of a predecessor, and past the count
-module _ (n v : ℕ) (es : List Event) (k : ℕ) where
-  pub code-of-sender : k ≤ n → code-in n v es k ≡ code-of (first-pulse v k es)
-  unfolding code-in
-  code-of-sender i = rw (le-leb k n i)
-
-  code-of-none : n < k → code-in n v es k ≡ silence
-  unfolding code-in
-  code-of-none i = rw (lt-leb k n i)
-
--- it changes with the stamp alone
-code-same : (n v : ℕ) (es fs : List Event) (k : ℕ) → first-pulse v k es ≡ first-pulse v k fs → code-in n v es k ≡ code-in n v fs k
-unfolding code-in
-code-same n v es fs k e = rw e
+-- the numbers of the senders' stamps
+abbrev codes : (reading : ℕ) → List Event → ℕ → ℕ
+codes v es k = code-of (first-pulse v k es)
 
 module _ (n v : ℕ) (two : 2 ≤ n) (three : n ≤ 3) (es : List Event) where
   at-place : (k : ℕ) → k ≤ n → code-at (senders-of n v es) k ≡ code-of (first-pulse v k es)
   unfolding code-at senders-of
-  at-place k i = four-at (code-in n v es) k (omega arith) ∙ code-of-sender n v es k i
+  at-place k i = place-of n silence (codes v es) k three i
 
   -- a sender is heard once its first pulse has come
   pub not-heard : (k : ℕ) → k ≤ n → first-pulse v k es ≡ silent → is-heard (senders-of n v es) k ≡ false
@@ -68,12 +57,11 @@ module _ (n v : ℕ) (two : 2 ≤ n) (three : n ≤ 3) (es : List Event) where
   pub heard-new : (k : ℕ) → k ≤ n → first-pulse v k es ≡ silent → heard-by (senders-of n v es) k (v + closes es) ≡ senders-of n v (es ++ pulse k ∷ [])
   unfolding heard-by senders-of code-of
   heard-new k i e =
-      let fs = es ++ pulse k ∷ [] in
       rw (
         not-heard k i e,
-        ← four-set (code-in n v es) (code-in n v fs) k (v + closes es) (omega arith)
-            (code-of-sender n v fs k i ∙ rw (first-new v k es e))
-            (λ j q. code-same n v fs es j (first-other v j es k q)),
+        ← places-set n silence (codes v es) (codes v (es ++ pulse k ∷ [])) k (v + closes es) three i
+            (ap code-of (first-new v k es e))
+            (λ j q. ap code-of (first-other v j es k q)),
       )
 
   -- a repeat
@@ -81,7 +69,7 @@ module _ (n v : ℕ) (two : 2 ≤ n) (three : n ≤ 3) (es : List Event) where
       heard-by (senders-of n v es) k (v + closes es) ≡ senders-of n v (es ++ pulse k ∷ [])
   unfolding heard-by senders-of
   heard-again k i e small =
-      rw (is-known k i e small, ← four-same (code-in n v es) (code-in n v (es ++ pulse k ∷ [])) (λ j. code-same n v (es ++ pulse k ∷ []) es j (same j)))
+      rw (is-known k i e small, ← places-same n silence (codes v es) (codes v (es ++ pulse k ∷ [])) (λ j p. ap code-of (same j)))
     where
       same : (j : ℕ) → first-pulse v j (es ++ pulse k ∷ []) ≡ first-pulse v j es
       same j = by-equal k j (λ q. rw (← q) (first-kept v k es (pulse k ∷ []) e ∙ sym e)) (λ q. first-other v j es k q)
@@ -89,17 +77,12 @@ module _ (n v : ℕ) (two : 2 ≤ n) (three : n ≤ 3) (es : List Event) where
   -- a pulse from no predecessor, and a close
   pub heard-wrong : (k : ℕ) → n < k → senders-of n v (es ++ pulse k ∷ []) ≡ senders-of n v es
   unfolding senders-of
-  heard-wrong k i = rw (four-same (code-in n v es) (code-in n v (es ++ pulse k ∷ [])) (λ j. unchanged j))
-    where
-      unchanged : (j : ℕ) → code-in n v (es ++ pulse k ∷ []) j ≡ code-in n v es j
-      unchanged j = by-order j n
-          (λ p. code-same n v (es ++ pulse k ∷ []) es j (first-other v j es k (λ q. omega arith)))
-          (λ p. code-of-none n v (es ++ pulse k ∷ []) j p ∙ sym (code-of-none n v es j p))
+  heard-wrong k i =
+      rw (places-same n silence (codes v es) (codes v (es ++ pulse k ∷ [])) (λ j p. ap code-of (first-other v j es k (λ q. omega arith))))
 
   pub heard-close : senders-of n v (es ++ close ∷ []) ≡ senders-of n v es
   unfolding senders-of
-  heard-close =
-      rw (four-same (code-in n v es) (code-in n v (es ++ close ∷ [])) (λ j. code-same n v (es ++ close ∷ []) es j (first-closed v j es)))
+  heard-close = rw (places-same n silence (codes v es) (codes v (es ++ close ∷ [])) (λ j p. ap code-of (first-closed v j es)))
 
   -- the stamps so far, while the open reading is one that opens
   module _ (small : v + closes es ≤ last) where
@@ -132,5 +115,5 @@ module _ (n v : ℕ) (two : 2 ≤ n) (three : n ≤ 3) (es : List Event) where
         code-fits : (k : ℕ) → k ≤ 3 → stamp-fits (code-at (senders-of n v es) k) ≡ true
         code-fits k i = by-order k n
             (λ p. rw (at-place k p) (of-stamp (first-pulse v k es) (by-last (first-pulse v k es) (first-between v k es .by))))
-            (λ p. let e : code-at (senders-of n v es) k ≡ silence = unfold code-at senders-of in four-at (code-in n v es) k i ∙ code-of-none n v es k p in
+            (λ p. let e : code-at (senders-of n v es) k ≡ silence = unfold code-at senders-of in place-past n silence (codes v es) k i p in
             rw e (unfold stamp-fits in refl))

@@ -1,20 +1,20 @@
 -- Repeats by the events, and with them the counts: a repeat raises its sender's, and no other event raises any. Assumes nothing.
-use mathlib.Core.Path.{_≡_, refl, sym, _∙_}
+use mathlib.Core.Path.{_≡_, refl, sym, _∙_, ap}
 use mathlib.Core.Bool.{Bool, true, false, cond}
 use mathlib.Core.List.{List, [], _∷_, _++_}
 use Prim.Native.Nat.{ℕ, suc, _+_, _≤_, _<_, min}
-use lib.Dec.{eqb, leb}
+use lib.Dec.{eqb}
 use lib.ListN.{replicate}
 use native.Mathlib.Omega.{arith}
-use borrow.Author.Tests.{eq-eqb, ne-eqb, le-leb, lt-leb}
-use Rattle.settings.proofs.Laws.Cases.{by-order, by-equal}
+use borrow.Author.Tests.{eq-eqb, ne-eqb}
+use Rattle.settings.proofs.Laws.Cases.{by-equal}
 use Rattle.rule.specs.Stamp.{heard, silent}
 use Rattle.board.specs.Events.{Event, pulse, close}
 use Rattle.board_runs.specs.Reading.{first-pulse}
 use Rattle.board_runs.proofs.Laws.Events.{not-silent}
-use Rattle.board_runs.proofs.Laws.Four.{four-same, four-set, four-at}
+use Rattle.board_runs.proofs.Laws.Places.{place-of, places-none, places-same, places-set}
 use Rattle.counted.specs.State.{most, one-more, raised}
-use Rattle.counted.specs.Reading.{pulses-of, repeats-of, count-in, counts-in}
+use Rattle.counted.specs.Reading.{pulses-of, repeats-of, count-of, counts-in}
 
 -- pulses are counted
 pulses-++ : (k : ℕ) (es fs : List Event) → pulses-of k (es ++ fs) ≡ pulses-of k es + pulses-of k fs
@@ -82,64 +82,37 @@ module _ (k : ℕ) (es : List Event) where
   unfolding repeats-of
   repeats-closed = omega (arith, pulses-closed)
 
--- the count of a predecessor, and of a place past the neighbour count
-module _ (n : ℕ) (es : List Event) (k : ℕ) where
-  count-of-sender : k ≤ n → count-in n es k ≡ min (repeats-of k es) most
-  unfolding count-in
-  count-of-sender i = rw (le-leb k n i)
-
-  count-of-none : n < k → count-in n es k ≡ 0
-  unfolding count-in
-  count-of-none i = rw (lt-leb k n i)
-
--- it changes with the repeats alone
-count-same : (n : ℕ) (es fs : List Event) (k : ℕ) → repeats-of k es ≡ repeats-of k fs → count-in n es k ≡ count-in n fs k
-unfolding count-in
-count-same n es fs k e = rw e
-
 -- no event, no count
 pub counts-none : (n : ℕ) → counts-in n [] ≡ replicate 4 0
-unfolding counts-in
-counts-none n = four-same (λ k. 0) (count-in n []) zero-at
-  where
-    zero-at : (k : ℕ) → count-in n [] k ≡ 0
-    zero-at k = unfold count-in repeats-of pulses-of in pick (leb k n)
-      where
-        pick : (p : Bool) → cond p (min 0 most) 0 ≡ 0
-        pick true = refl
-        pick false = refl
+unfolding counts-in count-of repeats-of pulses-of
+counts-none n = places-none n 0 (λ k. count-of k []) (λ k. refl)
 
 module _ (n : ℕ) (es : List Event) where
+  -- where no sender repeats the counts stay
+  same : (fs : List Event) → ((j : ℕ) → j ≤ n → repeats-of j fs ≡ repeats-of j es) → counts-in n fs ≡ counts-in n es
+  unfolding counts-in count-of
+  same fs e = places-same n 0 (λ j. count-of j es) (λ j. count-of j fs) (λ j i. ap (λ (m : ℕ). min m most) (e j i))
+
   -- a first pulse
   pub counts-new : (v k : ℕ) → first-pulse v k es ≡ silent → counts-in n (es ++ pulse k ∷ []) ≡ counts-in n es
-  unfolding counts-in
-  counts-new v k e =
-      let fs = es ++ pulse k ∷ [] in
-      four-same (count-in n es) (count-in n fs)
-      (λ j. count-same n fs es j (by-equal k j (λ q. rw (← q) (repeats-new k es v e)) (λ q. repeats-other j es k q)))
+  counts-new v k e = same (es ++ pulse k ∷ []) (λ j i. by-equal k j (λ q. rw (← q) (repeats-new k es v e)) (λ q. repeats-other j es k q))
 
   -- a repeat
   pub counts-more : (v k : ℕ) {a : ℕ} → n ≤ 3 → k ≤ n → first-pulse v k es ≡ heard a → counts-in n (es ++ pulse k ∷ []) ≡ raised (counts-in n es) k
   unfolding counts-in raised
   counts-more v k three i e =
-      let fs = es ++ pulse k ∷ [] in
-      rw (four-at (count-in n es) k (omega arith))
-      (four-set (count-in n es) (count-in n fs) k (one-more (count-in n es k)) (omega arith) more (λ j q. count-same n fs es j (repeats-other j es k q)))
+      rw (place-of n 0 (λ j. count-of j es) k three i)
+      (places-set n 0 (λ j. count-of j es) (λ j. count-of j (es ++ pulse k ∷ [])) k (one-more (count-of k es)) three i more other)
     where
-      more : count-in n (es ++ pulse k ∷ []) k ≡ one-more (count-in n es k)
-      more = unfold one-more in
-          omega (arith, count-of-sender n (es ++ pulse k ∷ []) k i, count-of-sender n es k i, repeats-more k es v e)
+      more : count-of k (es ++ pulse k ∷ []) ≡ one-more (count-of k es)
+      more = unfold count-of one-more in omega (arith, repeats-more k es v e)
+
+      other : (j : ℕ) → (k ≡ j → ⊥) → count-of j (es ++ pulse k ∷ []) ≡ count-of j es
+      other j q = unfold count-of in omega (arith, repeats-other j es k q)
 
   -- a pulse from no predecessor, and a close
   pub counts-wrong : (k : ℕ) → n < k → counts-in n (es ++ pulse k ∷ []) ≡ counts-in n es
-  unfolding counts-in
-  counts-wrong k i = four-same (count-in n es) (count-in n (es ++ pulse k ∷ [])) unchanged
-    where
-      unchanged : (j : ℕ) → count-in n (es ++ pulse k ∷ []) j ≡ count-in n es j
-      unchanged j = by-order j n
-          (λ p. count-same n (es ++ pulse k ∷ []) es j (repeats-other j es k (λ q. omega arith)))
-          (λ p. count-of-none n (es ++ pulse k ∷ []) j p ∙ sym (count-of-none n es j p))
+  counts-wrong k i = same (es ++ pulse k ∷ []) (λ j p. repeats-other j es k (λ q. omega arith))
 
   pub counts-closed : counts-in n (es ++ close ∷ []) ≡ counts-in n es
-  unfolding counts-in
-  counts-closed = four-same (count-in n es) (count-in n (es ++ close ∷ [])) (λ j. count-same n (es ++ close ∷ []) es j (repeats-closed j es))
+  counts-closed = same (es ++ close ∷ []) (λ j p. repeats-closed j es)
