@@ -7,7 +7,7 @@
 
 PREFIX = /usr/local
 DESTDIR =
-PROGRAMS = wallrun wallreach
+PROGRAMS = wallrun wallreach wallwide
 TO = $(DESTDIR)$(PREFIX)
 
 all:

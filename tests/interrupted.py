@@ -1,4 +1,4 @@
-"""interrupted.py read|write|nowait|nowait-output PROGRAM WALL: runs a program on a wall file with its input or its output a socket whose calls a stopped
+"""interrupted.py read|write|nowait|nowait-output WALL PROGRAM [WORD..]: runs a program on a wall file with its input or its output a socket whose calls a stopped
 and continued process sees interrupted (it has a timeout), or with one that does not wait; prints its answer and what it says."""
 import os
 import signal
@@ -8,7 +8,7 @@ import subprocess
 import sys
 import time
 
-side, program, wall = sys.argv[1], sys.argv[2], sys.argv[3]
+side, wall, call = sys.argv[1], sys.argv[2], sys.argv[3:]
 ours, theirs = socket.socketpair()
 AN_HOUR = struct.pack("ll", 3600, 0)
 
@@ -22,7 +22,7 @@ def stopped_and_continued(process):
 
 
 def started(**streams):
-    process = subprocess.Popen([program], stderr=subprocess.PIPE, **streams)
+    process = subprocess.Popen(call, stderr=subprocess.PIPE, **streams)
     theirs.close()
     return process
 

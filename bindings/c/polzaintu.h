@@ -45,7 +45,7 @@ extern "C" {
 
 /* The version of this header; polzaintu_version answers that of the archive. */
 #define POLZAINTU_VERSION_MAJOR 0
-#define POLZAINTU_VERSION_MINOR 7
+#define POLZAINTU_VERSION_MINOR 8
 #define POLZAINTU_VERSION_PATCH 0
 
 /* The version as one number, which grows from version to version. */
@@ -293,6 +293,26 @@ POLZAINTU_ANSWER uint32_t polzaintu_row_seam(const polzaintu_settings *settings,
                                              const uint8_t *marks, size_t marks_len, uint64_t seam,
                                              polzaintu_pair *columns, uint32_t *side,
                                              polzaintu_halves *halves);
+
+/* ---- Whether a seam of a row is too wide: §E7.1, §E7.2, §E7.6 ---- */
+
+typedef struct {
+    uint64_t left, right; /* columns */
+    uint64_t half_ticks;  /* the half gap in half ticks, its sign dropped: as many as the two times
+                             are ticks apart */
+} polzaintu_wide;
+
+/* The first wide seam of a row, in the order of polzaintu_seam_columns from 0 to W: closed, and
+ * with a half gap, its sign dropped, of more half ticks than the limit, which is any number. The
+ * times and marks are lent as to polzaintu_row_seam; bits beyond column W - 1 are not read. Writes
+ * found, and where that is true wide; where it is false, wide is left as it was.
+ *
+ * Answers 0; 1 to 9; 21 times or marks of another length; 31 where polzaintu_seam turns a seam away
+ * that comes before every wide one: nothing after the first is looked at. */
+POLZAINTU_ANSWER uint32_t polzaintu_first_wide(const polzaintu_settings *settings,
+                                               const uint64_t *times, size_t times_len,
+                                               const uint8_t *marks, size_t marks_len,
+                                               uint64_t limit, bool *found, polzaintu_wide *wide);
 
 /* ---- The last waves of a seam: §E1.1 to §E1.7 ----
  *
@@ -545,6 +565,7 @@ static_assert(sizeof(polzaintu_forwarded) == 4 * 8, "four words");
 static_assert(sizeof(polzaintu_ends) == 2 * 8, "two words");
 static_assert(sizeof(polzaintu_halves) == 2 * 8, "two words");
 static_assert(sizeof(polzaintu_pair) == 2 * 8, "two words");
+static_assert(sizeof(polzaintu_wide) == 3 * 8, "three words");
 static_assert(sizeof(polzaintu_waves) == 66 * 8, "sixty-six words");
 static_assert(sizeof(polzaintu_half_ticks) == 2 * 8, "two words");
 static_assert(sizeof(polzaintu_half_gaps) == 2 * 8, "two words");

@@ -21,6 +21,12 @@ void fill(void *memory, size_t count) {
         bytes[i] = (unsigned char)(0xa5 + 31 * i);
 }
 
+polzaintu_settings of_width(size_t width) {
+    polzaintu_settings settings = PRINTED;
+    settings.width = width;
+    return settings;
+}
+
 bool neighbours(size_t width, size_t a, size_t b) {
     size_t left = a < b ? a : b, right = a < b ? b : a;
     return right - left == 1 || (left == 0 && right == 2) ||
@@ -43,6 +49,13 @@ uint64_t bits(double number) {
     return word;
 }
 
+uint64_t seeded(uint64_t *seed) {
+    uint64_t word = *seed += UINT64_C(0x9e3779b97f4a7c15);
+    word = (word ^ word >> 30) * UINT64_C(0xbf58476d1ce4e5b9);
+    word = (word ^ word >> 27) * UINT64_C(0x94d049bb133111eb);
+    return word ^ word >> 31;
+}
+
 int main(void) {
     settings_tests();
     tile_tests();
@@ -53,6 +66,7 @@ int main(void) {
     board_tests();
     board_run_tests();
     places_tests();
+    wide_tests();
     reach_tests();
     empty_tests();
     words_tests();

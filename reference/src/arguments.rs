@@ -1,4 +1,4 @@
-//! The words of a call, as both programs take them: numbers in front, then the name of a file; and what is done of a call.
+//! The words of a call, as all programs take them: numbers in front, then the name of a file; and what is done of a call.
 
 use std::fs::File;
 use std::io::{self, BufWriter, Read, StdoutLock, Write};
@@ -11,7 +11,7 @@ pub enum Call {
     /// A wall file, standard input where none is named.
     Run {
         /// The numbers in front.
-        numbers: Vec<usize>,
+        numbers: Vec<u64>,
         /// The file.
         name: Option<String>,
     },
@@ -19,12 +19,14 @@ pub enum Call {
     Help,
     /// The version.
     Version,
+    /// The words end where a number is due.
+    Missing,
     /// This word is none that is known, or does not belong where it stands.
     Wrong(String),
 }
 
-/// Reads the words of a call that takes at most so many numbers, each in a range.
-pub fn read(words: &[String], most: usize, range: RangeInclusive<usize>) -> Call {
+/// Reads the words of a call that takes so many numbers, each in a range.
+pub fn read(words: &[String], counts: RangeInclusive<usize>, range: RangeInclusive<u64>) -> Call {
     match words.first().map(String::as_str) {
         Some("--help") => return Call::Help,
         Some("--version") => return Call::Version,
@@ -37,6 +39,9 @@ pub fn read(words: &[String], most: usize, range: RangeInclusive<usize>) -> Call
             return wrong;
         }
         if word.bytes().any(|byte| !byte.is_ascii_digit()) {
+            if numbers.len() < *counts.start() {
+                return wrong;
+            }
             return match words.get(i + 1) {
                 None => Call::Run {
                     numbers,
@@ -46,9 +51,14 @@ pub fn read(words: &[String], most: usize, range: RangeInclusive<usize>) -> Call
             };
         }
         match word.parse() {
-            Ok(number) if range.contains(&number) && numbers.len() < most => numbers.push(number),
+            Ok(number) if range.contains(&number) && numbers.len() < *counts.end() => {
+                numbers.push(number)
+            }
             _ => return wrong,
         }
+    }
+    if numbers.len() < *counts.start() {
+        return Call::Missing;
     }
     Call::Run {
         numbers,
@@ -62,21 +72,27 @@ pub struct Program {
     pub name: &'static str,
     /// The line that tells its use.
     pub usage: &'static str,
-    /// The most numbers in front.
-    pub most: usize,
+    /// How many numbers stand in front.
+    pub counts: RangeInclusive<usize>,
     /// Where each of them lies.
-    pub range: RangeInclusive<usize>,
+    pub range: RangeInclusive<u64>,
+    /// What each of them is, as it is said where one is missing.
+    pub number: &'static str,
 }
 
 /// Answers a program's call: `print` is handed the numbers in front, the bytes of the wall file and standard output. What can't
 /// be done is said on standard error, with another status than 0.
 pub fn answer(
     program: &Program,
-    print: impl FnOnce(&[usize], &[u8], &mut BufWriter<StdoutLock>) -> io::Result<()>,
+    print: impl FnOnce(&[u64], &[u8], &mut BufWriter<StdoutLock>) -> io::Result<()>,
 ) -> ExitCode {
     let Program { name, usage, .. } = program;
     let words: Vec<String> = std::env::args().skip(1).collect();
-    let (numbers, file) = match read(&words, program.most, program.range.clone()) {
+    let wrong = |said: &str| {
+        eprintln!("{name}: {said}\n{usage}");
+        ExitCode::from(2)
+    };
+    let (numbers, file) = match read(&words, program.counts.clone(), program.range.clone()) {
         Call::Run { numbers, name } => (numbers, name),
         Call::Help => {
             println!("{usage}");
@@ -86,10 +102,8 @@ pub fn answer(
             println!("{name} {}", env!("CARGO_PKG_VERSION"));
             return ExitCode::SUCCESS;
         }
-        Call::Wrong(word) => {
-            eprintln!("{name}: unexpected argument: {word}\n{usage}");
-            return ExitCode::from(2);
-        }
+        Call::Missing => return wrong(&format!("{} is missing", program.number)),
+        Call::Wrong(word) => return wrong(&format!("unexpected argument: {word}")),
     };
     let failed = |doing, error| {
         eprintln!("{name}: {doing}: {error}");
@@ -121,11 +135,19 @@ mod tests {
     use super::*;
 
     fn rows(words: &[&str]) -> Call {
-        let words: Vec<String> = words.iter().map(|word| word.to_string()).collect();
-        read(&words, 16, 1..=1_024)
+        called(words, 0..=16, 1..=1_024)
     }
 
-    fn run(numbers: &[usize], name: Option<&str>) -> Call {
+    fn limit(words: &[&str]) -> Call {
+        called(words, 1..=1, 0..=1 << 42)
+    }
+
+    fn called(words: &[&str], counts: RangeInclusive<usize>, range: RangeInclusive<u64>) -> Call {
+        let words: Vec<String> = words.iter().map(|word| word.to_string()).collect();
+        read(&words, counts, range)
+    }
+
+    fn run(numbers: &[u64], name: Option<&str>) -> Call {
         Call::Run {
             numbers: numbers.to_vec(),
             name: name.map(String::from),
@@ -150,7 +172,7 @@ mod tests {
             assert_eq!(rows(&[bad]), wrong(bad), "{bad}");
             assert_eq!(rows(&["1", bad, "2"]), wrong(bad), "{bad}");
         }
-        assert_eq!(read(&["12".into()], 0, 0..=0), wrong("12"));
+        assert_eq!(called(&["12"], 0..=0, 0..=0), wrong("12"));
     }
 
     #[test]
@@ -161,6 +183,24 @@ mod tests {
             assert_eq!(rows(&["3", name, "1"]), wrong("1"));
             assert_eq!(rows(&[name, "--help"]), wrong("--help"));
         }
+    }
+
+    #[test]
+    fn a_number_that_is_needed() {
+        assert_eq!(limit(&[]), Call::Missing);
+        for (word, number) in [("0", 0), ("0036", 36), ("4398046511104", 1 << 42)] {
+            assert_eq!(limit(&[word]), run(&[number], None));
+            assert_eq!(limit(&[word, "12a"]), run(&[number], Some("12a")));
+            assert_eq!(limit(&[word, "12"]), wrong("12"));
+            assert_eq!(limit(&[word, "--help"]), wrong("--help"));
+            assert_eq!(limit(&[word, "some.wall", "12"]), wrong("12"));
+            assert_eq!(limit(&["some.wall", word]), wrong("some.wall"));
+        }
+        for bad in ["", "-1", "some.wall", "1.5", "+1", "4398046511105"] {
+            assert_eq!(limit(&[bad]), wrong(bad), "{bad}");
+        }
+        assert_eq!(limit(&["--help"]), Call::Help);
+        assert_eq!(limit(&["--version", "x"]), Call::Version);
     }
 
     #[test]

@@ -2,7 +2,7 @@
 //!
 //! Each module renders one section of them: settings, clocks, the forwarding rule, the tile, the wall's
 //! shape, the row, the seam, the wall file and its printing, how far a faulty tile reaches, the words of a call,
-//! the last waves of a seam, and the tile as it runs.
+//! the last waves of a seam, the tile as it runs, and seams that are too wide.
 //! All sums are made in 128-bit signed numbers, far from any overflow. `generate` and `cases` are no part of
 //! the reference: they make wall files to compare programs on.
 
@@ -21,6 +21,7 @@ pub mod settings;
 pub mod shape;
 pub mod tile;
 pub mod waves;
+pub mod wide;
 
 use std::fmt;
 

@@ -30,7 +30,7 @@ pub fn hops(f: usize, l: usize) -> usize {
 pub const MOST_ASKED: usize = 16;
 
 /// The rows that may be asked for.
-pub const ROWS: RangeInclusive<usize> = 1..=1_024;
+pub const ROWS: RangeInclusive<u64> = 1..=1_024;
 
 /// What came of a wall file.
 #[derive(Clone, Copy, Debug, PartialEq, Eq)]
@@ -60,7 +60,7 @@ impl From<io::Error> for End {
 /// Runs the wall of `file` and prints B of each row f below R and, for each row asked for that is above
 /// f in the wall, the ticks and hops within which one faulty tile of row f can reach it; then the
 /// largest ticks of all. The error is one of `out`.
-pub fn wallreach(file: &[u8], asked: &[usize], out: &mut impl Write) -> io::Result<Outcome> {
+pub fn wallreach(file: &[u8], asked: &[u64], out: &mut impl Write) -> io::Result<Outcome> {
     let mut largest = 0;
     match walk(file, |row| show(&row, asked, &mut largest, out)) {
         Ok(()) => {
@@ -82,7 +82,7 @@ pub fn wallreach(file: &[u8], asked: &[usize], out: &mut impl Write) -> io::Resu
 /// Prints the lines of row f, which ends the walk where a tile of it is faulty. No row is above row R.
 fn show(
     row: &ShownRow,
-    asked: &[usize],
+    asked: &[u64],
     largest: &mut Tick,
     out: &mut impl Write,
 ) -> Result<(), End> {
@@ -97,7 +97,8 @@ fn show(
     let b = largest_difference(shape, row.times);
     writeln!(out, "b {f} {b}")?;
     let later = f + 1..=last;
-    for &l in asked.iter().filter(|l| later.contains(l)) {
+    let asked = asked.iter().filter_map(|&l| usize::try_from(l).ok());
+    for l in asked.filter(|l| later.contains(l)) {
         let (ticks, hops) = (ticks(b, settings.h(), f, l), hops(f, l));
         writeln!(out, "r {f} {l} {ticks} {hops}")?;
     }
@@ -114,13 +115,13 @@ mod tests {
     use crate::generate::describe::Description;
     use crate::SILENT;
 
-    fn print(file: &[u8], asked: &[usize]) -> (String, Outcome) {
+    fn print(file: &[u8], asked: &[u64]) -> (String, Outcome) {
         let mut out = Vec::new();
         let outcome = wallreach(file, asked, &mut out).unwrap();
         (String::from_utf8(out).unwrap(), outcome)
     }
 
-    fn text(wall: &Description, asked: &[usize]) -> String {
+    fn text(wall: &Description, asked: &[u64]) -> String {
         print(&wall.encode().bytes, asked).0
     }
 

@@ -10,9 +10,11 @@ use wall_reference::generate;
 use wall_reference::print::wallrun;
 use wall_reference::reach::wallreach;
 use wall_reference::rule::Letter;
+use wall_reference::wide::wallwide;
 
 const WALLREF: &str = env!("CARGO_BIN_EXE_wallref");
 const REACHREF: &str = env!("CARGO_BIN_EXE_reachref");
+const WIDEREF: &str = env!("CARGO_BIN_EXE_wideref");
 const WALLGEN: &str = env!("CARGO_BIN_EXE_wallgen");
 const WALLDIFF: &str = env!("CARGO_BIN_EXE_walldiff");
 const WALLBENCH: &str = env!("CARGO_BIN_EXE_wallbench");
@@ -67,8 +69,19 @@ fn walldiff(program: &str, count: &str, name: &str) -> Output {
 
 /// A program that does what wallref does, and then this line of shell.
 fn wallref_and(name: &str, then: &str) -> String {
+    script(name, &format!("\"{WALLREF}\" \"$@\"\n{then}"))
+}
+
+/// A program that does what wideref does with another limit, this sum of shell over `limit`.
+fn wideref_with(name: &str, limit: &str) -> String {
+    let lines = format!("limit=$1\nshift\nexec \"{WIDEREF}\" $(({limit})) \"$@\"");
+    script(name, &lines)
+}
+
+/// A program of these lines of shell.
+fn script(name: &str, lines: &str) -> String {
     let path = folder(name).join("program").to_str().unwrap().to_string();
-    let text = format!("#!/bin/sh\n\"{WALLREF}\" \"$@\"\n{then}");
+    let text = format!("#!/bin/sh\n{lines}");
     // A process of its own writes it: a file that this one still has open can't be run.
     let write = r#"printf '%s\n' "$1" > "$0" && chmod +x "$0""#;
     let status = Command::new("sh")
@@ -118,15 +131,60 @@ fn reachref_tells_a_bad_argument_and_prints_nothing() {
 }
 
 #[test]
-fn both_read_a_named_file() {
+fn wideref_prints_what_the_library_prints() {
+    for seed in 0..50 {
+        let file = generate::file(seed);
+        for limit in [0, 30, 1 << 42] {
+            let output = run(WIDEREF, &[&limit.to_string()], &file);
+            assert!(output.status.success());
+            let due = format!("{}\n", wallwide(&file, limit));
+            assert_eq!(String::from_utf8(output.stdout).unwrap(), due);
+            assert!(output.stderr.is_empty());
+        }
+    }
+}
+
+#[test]
+fn wideref_needs_a_limit_and_takes_no_second() {
+    let file = generate::file(0);
+    for (arguments, said) in [
+        (&[][..], "a limit is missing"),
+        (&["some.wall"], "unexpected argument: some.wall"),
+        (&["some.wall", "36"], "unexpected argument: some.wall"),
+        (&["-1"], "unexpected argument: -1"),
+        (&[""], "unexpected argument: "),
+        (&["4398046511105"], "unexpected argument: 4398046511105"),
+        (&["36", "37"], "unexpected argument: 37"),
+        (&["36", "37", "some.wall"], "unexpected argument: 37"),
+        (&["36", "some.wall", "37"], "unexpected argument: 37"),
+        (&["36", "--help"], "unexpected argument: --help"),
+    ] {
+        let output = run(WIDEREF, arguments, &file);
+        assert_eq!(output.status.code(), Some(2), "{arguments:?}");
+        assert!(output.stdout.is_empty());
+        let text = String::from_utf8(output.stderr).unwrap();
+        let due = format!("wideref: {said}\nusage: wideref LIMIT [FILE], ");
+        assert!(text.starts_with(&due), "{text}");
+    }
+    for limit in ["0", "4398046511104"] {
+        assert!(run(WIDEREF, &[limit], &file).status.success());
+    }
+}
+
+/// Each program, and the numbers that it needs in front.
+const PROGRAMS: [(&str, &[&str]); 3] = [(WALLREF, &[]), (REACHREF, &[]), (WIDEREF, &["36"])];
+
+#[test]
+fn all_read_a_named_file() {
     let path = folder("named").join("some.wall");
     let file = generate::file(1);
     std::fs::write(&path, &file).unwrap();
-    for program in [WALLREF, REACHREF] {
-        let named = run(program, &[path.to_str().unwrap()], &[]);
+    for (program, numbers) in PROGRAMS {
+        let with = |name| [numbers, &[name]].concat();
+        let named = run(program, &with(path.to_str().unwrap()), &[]);
         assert!(named.status.success());
-        assert_eq!(named.stdout, run(program, &[], &file).stdout);
-        let missing = run(program, &["no-such.wall"], &file);
+        assert_eq!(named.stdout, run(program, numbers, &file).stdout);
+        let missing = run(program, &with("no-such.wall"), &file);
         assert_eq!(missing.status.code(), Some(1));
         assert!(missing.stdout.is_empty());
         assert!(!missing.stderr.is_empty());
@@ -140,29 +198,35 @@ fn both_read_a_named_file() {
 
 #[test]
 fn a_failed_read_is_no_end_of_file() {
-    // A folder opens as a file and fails when read.
-    let unreadable = File::open(folder("unreadable")).unwrap();
-    let output = Command::new(WALLREF).stdin(unreadable).output().unwrap();
-    assert!(!output.status.success());
-    assert!(output.stdout.is_empty());
-    assert!(!output.stderr.is_empty());
+    for (program, numbers) in PROGRAMS {
+        // A folder opens as a file and fails when read.
+        let unreadable = File::open(folder("unreadable")).unwrap();
+        let mut command = Command::new(program);
+        let output = command.args(numbers).stdin(unreadable).output().unwrap();
+        assert!(!output.status.success());
+        assert!(output.stdout.is_empty());
+        assert!(!output.stderr.is_empty());
+    }
 }
 
 #[test]
 fn a_failed_write_is_told() {
-    let Ok(full) = File::create("/dev/full") else {
-        return;
-    };
-    let mut child = Command::new(WALLREF)
-        .stdin(Stdio::piped())
-        .stdout(full)
-        .stderr(Stdio::piped())
-        .spawn()
-        .unwrap();
-    drop(child.stdin.take());
-    let output = child.wait_with_output().unwrap();
-    assert!(!output.status.success());
-    assert!(!output.stderr.is_empty());
+    for (program, numbers) in PROGRAMS {
+        let Ok(full) = File::create("/dev/full") else {
+            return;
+        };
+        let mut child = Command::new(program)
+            .args(numbers)
+            .stdin(Stdio::piped())
+            .stdout(full)
+            .stderr(Stdio::piped())
+            .spawn()
+            .unwrap();
+        drop(child.stdin.take());
+        let output = child.wait_with_output().unwrap();
+        assert!(!output.status.success());
+        assert!(!output.stderr.is_empty());
+    }
 }
 
 #[test]
@@ -197,14 +261,15 @@ fn wallgen_makes_walls_of_a_size() {
 
 #[test]
 fn walldiff_finds_no_difference_with_itself() {
-    for (arguments, name) in [
-        (&[WALLREF, "200", "0"][..], "same"),
-        (&["--reach", REACHREF, "200", "0"], "same-reach"),
+    for (arguments, name, first) in [
+        (&[WALLREF, "200", "0"][..], "same", "walls "),
+        (&["--reach", REACHREF, "200", "0"], "same-reach", "walls "),
+        (&["--wide", WIDEREF, "200", "0"], "same-wide", "answers "),
     ] {
         let output = walldiff_with(arguments, name);
         let text = String::from_utf8(output.stdout).unwrap();
         assert!(output.status.success(), "{text}");
-        assert!(text.starts_with("walls "), "{text}");
+        assert!(text.starts_with(first), "{text}");
         assert!(text.contains("\n  43 "), "{text}");
         assert!(text.ends_with("no difference in 200 walls, seeds from 0\n"));
     }
@@ -263,6 +328,36 @@ fn walldiff_holds_wallreach_against_its_own_reference() {
     let text = String::from_utf8(output.stdout).unwrap();
     assert_eq!(output.status.code(), Some(1));
     assert!(text.contains("the program differs\narguments ["), "{text}");
+}
+
+#[test]
+fn walldiff_meets_answers_of_every_kind() {
+    let output = walldiff_with(&["--wide", WIDEREF, "500", "0"], "kinds");
+    let text = String::from_utf8(output.stdout).unwrap();
+    let (counts, _) = text.split_once("refusals by number").unwrap();
+    assert_eq!(counts.lines().count(), 20, "{text}");
+    for line in counts.lines() {
+        let count: u64 = line.rsplit(' ').next().unwrap().parse().unwrap();
+        assert!(count > 0, "{line}");
+    }
+}
+
+#[test]
+fn walldiff_tells_limits_that_are_taken_otherwise() {
+    // No gap comes near the largest limits, which stay as they are.
+    for (name, limit) in [
+        ("at-the-limit", "limit > 0 ? limit - 1 : 0"),
+        ("two-over-it", "limit < 1 << 41 ? limit + 1 : limit"),
+        ("halved-again", "limit < 1 << 41 ? limit * 2 + 1 : limit"),
+        ("doubled", "limit / 2"),
+    ] {
+        let program = wideref_with(name, limit);
+        let output = walldiff_with(&["--wide", &program, "20", "0"], name);
+        let text = String::from_utf8(output.stdout).unwrap();
+        assert_eq!(output.status.code(), Some(1), "{name}: {text}");
+        assert!(text.contains("\nline 1\n  reference: "), "{name}: {text}");
+        assert!(!text.contains("standard error"), "{name}: {text}");
+    }
 }
 
 #[test]

@@ -23,6 +23,10 @@ static void places(void) {
     CHECK(faulty);
     CHECK(polzaintu_row_seam(&PRINTED, NULL, 0, NULL, 0, 0, &pair, &side, &halves) == 21);
     CHECK(pair.left == 77 && pair.right == 78 && side == 9);
+    bool found = true;
+    polzaintu_wide wide = {77, 78, 79};
+    CHECK(polzaintu_first_wide(&PRINTED, NULL, 0, NULL, 0, 0, &found, &wide) == 21);
+    CHECK(found && wide.left == 77 && wide.right == 78 && wide.half_ticks == 79);
 }
 
 /* Lends a step no row and no letters. */

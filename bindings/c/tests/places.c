@@ -5,12 +5,6 @@
 
 static const uint64_t LATEST = (UINT64_C(1) << 41) - 1;
 
-static polzaintu_settings of_width(size_t width) {
-    polzaintu_settings settings = PRINTED;
-    settings.width = width;
-    return settings;
-}
-
 /* Turned away with the number, the columns left as they were. */
 static void no_columns(polzaintu_settings settings, uint64_t seam, uint32_t number) {
     polzaintu_pair pair = {77, 78};

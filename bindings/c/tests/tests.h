@@ -1,4 +1,5 @@
-/* What the tests share: a check that counts, settings to start from, and the shape of a row. */
+/* What the tests share: a check that counts, settings to start from, the shape of a row, and a
+ * source of numbers. */
 #ifndef TESTS_H
 #define TESTS_H
 
@@ -14,6 +15,9 @@ void fill(void *memory, size_t count);
 
 /* W 6, R 1, d 100, u 10, A 400, r 0, h 12. */
 extern const polzaintu_settings PRINTED;
+
+/* The same with another W. */
+polzaintu_settings of_width(size_t width);
 
 /* Settings just past each limit, and the number under which they are turned away. */
 struct refused_settings {
@@ -32,6 +36,9 @@ size_t link_place(size_t width, size_t tile, size_t sender);
 /* The bits of a 64-bit floating number. */
 uint64_t bits(double number);
 
+/* The next number of a small seeded source. */
+uint64_t seeded(uint64_t *seed);
+
 void settings_tests(void);
 void tile_tests(void);
 void row_tests(void);
@@ -41,6 +48,7 @@ void waves_reading_tests(void);
 void board_tests(void);
 void board_run_tests(void);
 void places_tests(void);
+void wide_tests(void);
 void reach_tests(void);
 void empty_tests(void);
 void words_tests(void);

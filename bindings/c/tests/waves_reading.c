@@ -3,14 +3,6 @@
 
 static const uint64_t LATEST = (UINT64_C(1) << 41) - 1;
 
-/* A small seeded source of numbers. */
-static uint64_t seeded(uint64_t *seed) {
-    uint64_t word = *seed += UINT64_C(0x9e3779b97f4a7c15);
-    word = (word ^ word >> 30) * UINT64_C(0xbf58476d1ce4e5b9);
-    word = (word ^ word >> 27) * UINT64_C(0x94d049bb133111eb);
-    return word ^ word >> 31;
-}
-
 /* Mostly small, so that gaps are often the same; now and then an end of the range, or late. */
 static uint64_t some_time(uint64_t *seed) {
     switch (seeded(seed) % 16) {

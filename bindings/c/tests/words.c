@@ -19,6 +19,6 @@ void words_tests(void) {
     CHECK(strcmp(polzaintu_words(54), "the sender is none of the tile's predecessors") == 0);
     CHECK(strcmp(polzaintu_words(POLZAINTU_UNFIT), "what was lent does not fit") == 0);
 
-    CHECK(POLZAINTU_VERSION == 7000);
+    CHECK(POLZAINTU_VERSION == 8000);
     CHECK(polzaintu_version() == POLZAINTU_VERSION);
 }

@@ -77,6 +77,15 @@ pub struct Pair {
     pub right: u64,
 }
 
+/// A wide seam: its columns, and its half gap in half ticks, the sign dropped.
+#[repr(C)]
+#[derive(Default)]
+pub struct Wide {
+    pub left: u64,
+    pub right: u64,
+    pub half_ticks: u64,
+}
+
 /// The last waves of a seam: the gap of each, how many are held at most, and the place of the next.
 #[repr(C)]
 #[derive(Clone, Copy, Debug, PartialEq, Eq)]
@@ -147,6 +156,7 @@ const _: () = assert!(size_of::<Ends>() == 2 * 8);
 const _: () = assert!(size_of::<Halves>() == 2 * 8);
 const _: () = assert!(size_of::<Range>() == 3 * 8);
 const _: () = assert!(size_of::<Pair>() == 2 * 8);
+const _: () = assert!(size_of::<Wide>() == 3 * 8);
 const _: () = assert!(size_of::<Waves>() == 66 * 8);
 const _: () = assert!(size_of::<HalfTicks>() == 2 * 8);
 const _: () = assert!(size_of::<HalfGaps>() == 2 * 8);
@@ -242,6 +252,16 @@ extern "C" {
         columns: *mut Pair,
         side: *mut u32,
         halves: *mut Halves,
+    ) -> u32;
+    fn polzaintu_first_wide(
+        settings: *const Limits,
+        times: *const u64,
+        times_len: usize,
+        marks: *const u8,
+        marks_len: usize,
+        limit: u64,
+        found: *mut bool,
+        wide: *mut Wide,
     ) -> u32;
     fn polzaintu_mark(
         settings: *const Limits,
@@ -430,6 +450,30 @@ pub fn row_seam(
             columns,
             side,
             halves,
+        )
+    }
+}
+
+pub fn first_wide(
+    settings: &Limits,
+    times: &[u64],
+    marks: &[u8],
+    limit: u64,
+    found: &mut bool,
+    wide: &mut Wide,
+) -> u32 {
+    // SAFETY: each pointer is a slice's, with that slice's length, or a reference's; the wide seam
+    // and the `bool`, which are written, the latter with 0 or 1, are each behind a `&mut`.
+    unsafe {
+        polzaintu_first_wide(
+            settings,
+            times.as_ptr(),
+            times.len(),
+            marks.as_ptr(),
+            marks.len(),
+            limit,
+            found,
+            wide,
         )
     }
 }

@@ -13,11 +13,12 @@
 //! - [`seam::join`]: the midpoint and half gap of two neighbouring tiles.
 //! - [`seam::row_seam`], [`row::marked`], [`row::link_place`]: where the seams, marks and links of a
 //!   row stand.
+//! - [`seam::first_wide`]: the first seam of a row that is wider than a limit.
 //! - [`waves::Waves`]: the last waves of a seam, and the largest and smallest half gap among them.
 //! - [`board::Board`]: a tile as it runs, event by event on its own clock.
 //! - [`reach`]: how far one broken tile reaches.
-//! - [`wall::Reader`]: the rows, the seams and the search range of a wall file; [`wall::Wall`] takes
-//!   one step by step.
+//! - [`wall::Reader`]: the rows, the seams, the first wide seam and the search range of a wall file;
+//!   [`wall::Wall`] takes one step by step.
 //!
 //! ```
 //! use polzaintu::row::{self, Lent};

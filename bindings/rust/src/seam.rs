@@ -1,4 +1,5 @@
-//! Seams, two neighbouring tiles of one row: §8.1 to §8.4.
+//! Seams, two neighbouring tiles of one row: §8.1 to §8.4. The first that is too wide: §E7.1, §E7.2,
+//! §E7.6.
 
 use crate::{ffi, Refusal, Settings};
 
@@ -153,5 +154,58 @@ pub fn row_seam(
         left: pair.left as usize,
         right: pair.right as usize,
         seam: Seam::read(side, halves),
+    }))
+}
+
+/// A seam whose half gap is over a limit.
+#[derive(Clone, Copy, Debug, PartialEq, Eq, Hash)]
+pub struct Wide {
+    /// The column of the left tile.
+    pub left: usize,
+    /// The column of the right tile.
+    pub right: usize,
+    /// The half gap in half ticks, its sign dropped: as many as the two times are ticks apart.
+    pub half_ticks: u64,
+}
+
+/// The first seam of a row, in the order of [`pairs`], that is closed and whose half gap, its sign
+/// dropped, is more half ticks than the limit, from the row's W times and its marks; or number 21,
+/// or 31 where a seam before every such one is turned away. `None` where the row has none. Marks
+/// past the last column are not read.
+///
+/// ```
+/// use polzaintu::seam::{first_wide, Wide};
+/// # use polzaintu::{Limits, Settings};
+/// # let settings = Settings::new(Limits {
+/// #     width: 6, rows: 1, delay: 100, uncertainty: 10, hold: 400, drift: 0, unit: 12,
+/// # })?;
+///
+/// // A half gap of 18 ticks is 36 half ticks.
+/// let times = [1500, 1500, 1500, 1536, 1500, 1500];
+/// let wide = Wide { left: 2, right: 3, half_ticks: 36 };
+/// assert_eq!(first_wide(&settings, &times, &[0], 35)?, Some(wide));
+/// assert_eq!(first_wide(&settings, &times, &[0], 36)?, None);
+/// # Ok::<(), polzaintu::Refusal>(())
+/// ```
+pub fn first_wide(
+    settings: &Settings,
+    times: &[u64],
+    marks: &[u8],
+    limit: u64,
+) -> Result<Option<Wide>, Refusal> {
+    let mut found = false;
+    let mut wide = ffi::Wide::default();
+    Refusal::check(ffi::first_wide(
+        settings.limits(),
+        times,
+        marks,
+        limit,
+        &mut found,
+        &mut wide,
+    ))?;
+    Ok(found.then_some(Wide {
+        left: wide.left as usize,
+        right: wide.right as usize,
+        half_ticks: wide.half_ticks,
     }))
 }

@@ -8,8 +8,8 @@ mod reader;
 mod search;
 mod shown;
 
-pub use crate::seam::RowSeam;
-pub use reader::{Error, Reader};
+pub use crate::seam::{RowSeam, Wide};
+pub use reader::{Error, Reader, WideSeam};
 pub use search::{SearchError, SearchRange, Tile};
 pub use shown::Row;
 

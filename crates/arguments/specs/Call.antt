@@ -1,5 +1,5 @@
--- What the words of a call ask for: numbers in front, as many as there is room for, then at most one name; or help or the version.
--- Assumes nothing.
+-- What the words of a call ask for: numbers in front, those that are needed and no more than there is room for, then at most one name;
+-- or help or the version. Assumes nothing.
 use mathlib.Core.Path.{_≡_}
 use mathlib.Core.Bool.{cond}
 use mathlib.Core.List.{List, [], _∷_, _++_}
@@ -17,22 +17,24 @@ unfoldable pub named : (i : ℕ) → (behind : List (List ℕ)) → Call
 named i [] = call.File i
 named i (w ∷ ws) = call.Wrong (suc i)
 
--- §16.1 by the word at place i, with room for so many numbers: `on` is what the words behind it ask for. Help and version stand in front.
-unfoldable pub by-word : (room i : ℕ) → (behind : List (List ℕ)) → (on : Call) → Word → Call
-by-word room i ws on (word.Number n) = cond (ltb room i) (call.Wrong i) on
-by-word room i ws on word.Name = named i ws
-by-word room i ws on word.Help = cond (eqb i 1) call.Help (call.Wrong i)
-by-word room i ws on word.Version = cond (eqb i 1) call.Version (call.Wrong i)
-by-word room i ws on word.Other = call.Wrong i
+-- §16.1 by the word at place i, with so many numbers needed and room for so many: `on` is what the words behind it ask for. A name stands
+-- behind the needed numbers, help and version in front.
+unfoldable pub by-word : (needed room i : ℕ) → (behind : List (List ℕ)) → (on : Call) → Word → Call
+by-word needed room i ws on (word.Number n) = cond (ltb room i) (call.Wrong i) on
+by-word needed room i ws on word.Name = cond (ltb needed i) (named i ws) (call.Wrong i)
+by-word needed room i ws on word.Help = cond (eqb i 1) call.Help (call.Wrong i)
+by-word needed room i ws on word.Version = cond (eqb i 1) call.Version (call.Wrong i)
+by-word needed room i ws on word.Other = call.Wrong i
 
 -- §16.1 what the words from place i on ask for
-unfoldable pub call-from : (least largest room i : ℕ) → (words : List (List ℕ)) → Call
-call-from least largest room i [] = call.Input
-call-from least largest room i (w ∷ ws) = by-word room i ws (call-from least largest room (suc i) ws) (word-of least largest w)
+unfoldable pub call-from : (needed least largest room i : ℕ) → (words : List (List ℕ)) → Call
+call-from needed least largest room i [] = cond (ltb needed i) call.Input call.Missing
+call-from needed least largest room i (w ∷ ws) =
+    by-word needed room i ws (call-from needed least largest room (suc i) ws) (word-of least largest w)
 
 -- §16.1 what all words of a call ask for
-unfoldable pub call-of : (least largest room : ℕ) → (words : List (List ℕ)) → Call
-call-of least largest room ws = call-from least largest room 1 ws
+unfoldable pub call-of : (needed least largest room : ℕ) → (words : List (List ℕ)) → Call
+call-of needed least largest room ws = call-from needed least largest room 1 ws
 
 -- §16.1 a number stands in front of those behind it; any other word ends them
 unfoldable pub with-number : Word → (behind : List ℕ) → List ℕ
@@ -54,9 +56,9 @@ pub record Some-word (least largest : ℕ) (x : Word) : Type 0 where
   pub is : x ≡ word-of least largest word
 
 -- §16.1 the answer for some words, and their numbers, written from the front
-pub record Called (least largest : ℕ) (before : List ℕ) (answer : Call) (after : List ℕ) : Type 0 where
+pub record Called (needed least largest : ℕ) (before : List ℕ) (answer : Call) (after : List ℕ) : Type 0 where
   pub words : List (List ℕ)
-  pub answered : answer ≡ call-of least largest (length before) words
+  pub answered : answer ≡ call-of needed least largest (length before) words
   pub numbers :
       let ns = numbers-in least largest (length before) words in
       after ≡ ns ++ drop (length ns) before

@@ -39,11 +39,15 @@ all-codes (s ∷ ss) = codes s ∷ all-codes ss
 
 -- §16.1 a call with room for 16 rows
 unfoldable pub with-rows : List String → Call
-with-rows ss = call-of 1 1024 16 (all-codes ss)
+with-rows ss = call-of 0 1 1024 16 (all-codes ss)
 
 -- §16.1 a call with room for no number
 unfoldable pub without : List String → Call
-without ss = call-of 0 0 0 (all-codes ss)
+without ss = call-of 0 0 0 0 (all-codes ss)
+
+-- §16.1 a call that needs a limit of half ticks
+unfoldable pub with-limit : List String → Call
+with-limit ss = call-of 1 0 4398046511104 1 (all-codes ss)
 
 -- §16.1 the same word so many times
 abbrev pub sevens : (n : ℕ) → List String
@@ -74,6 +78,21 @@ Wrong-cases =
     × (without ("12" ∷ []) ≡ call.Wrong 1)
     × (without ("some.wall" ∷ "other.wall" ∷ []) ≡ call.Wrong 2)
     × (without ("-x" ∷ []) ≡ call.Wrong 1)
+
+-- §16.1 calls with a limit and without
+unfoldable pub Needed-cases : Type 0
+Needed-cases =
+    (with-limit [] ≡ call.Missing)
+    × (with-limit ("5" ∷ []) ≡ call.Input)
+    × (with-limit ("5" ∷ "some.wall" ∷ []) ≡ call.File 2)
+    × (with-limit ("some.wall" ∷ []) ≡ call.Wrong 1)
+    × (with-limit ("some.wall" ∷ "5" ∷ []) ≡ call.Wrong 1)
+    × (with-limit ("5" ∷ "6" ∷ []) ≡ call.Wrong 2)
+    × (with-limit ("4398046511104" ∷ []) ≡ call.Input)
+    × (with-limit ("4398046511105" ∷ []) ≡ call.Wrong 1)
+    × (with-limit ("-1" ∷ []) ≡ call.Wrong 1)
+    × (with-limit ("--help" ∷ []) ≡ call.Help)
+    × (with-limit ("--version" ∷ []) ≡ call.Version)
 
 -- §16.1 the numbers in front, in their order
 unfoldable pub Front-cases : Type 0

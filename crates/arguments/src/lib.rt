@@ -26,14 +26,16 @@ pub enum Call {
     File(usize),
     Help,
     Version,
+    // The words end before the numbers that are needed.
+    Missing,
     // This word is none that is known, or does not belong where it stands.
     Wrong(usize),
 }
 
-// Writes the numbers in front, each from `least` to `largest`, and answers what the call asks for.
-pub fn read(least: u64, largest: u64, numbers: &mut [u64]) -> Call
+// Writes the numbers in front, each from `least` to `largest`, of which `needed` have to be there, and answers what the call asks for.
+pub fn read(needed: usize, least: u64, largest: u64, numbers: &mut [u64]) -> Call
     requires { ⌜ largest ≤ 4398046511104 ⌝ }
-    ensures { λ r. ⌜ Called least largest (now (numbers .entry)) r (now (numbers .exit)) ⌝ }
+    ensures { λ r. ⌜ Called needed least largest (now (numbers .entry)) r (now (numbers .exit)) ⌝ }
 {
     let count = os::arg_count();
     let mut i = 1;
@@ -47,6 +49,9 @@ pub fn read(least: u64, largest: u64, numbers: &mut [u64]) -> Call
                 i += 1;
             }
             Word::Name => {
+                if i <= needed {
+                    return Call::Wrong(i);
+                }
                 if i + 1 < count {
                     return Call::Wrong(i + 1);
                 }
@@ -68,6 +73,9 @@ pub fn read(least: u64, largest: u64, numbers: &mut [u64]) -> Call
                 return Call::Wrong(i);
             }
         }
+    }
+    if i <= needed {
+        return Call::Missing;
     }
     Call::Input
 }

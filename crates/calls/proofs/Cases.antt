@@ -28,8 +28,9 @@ use Rattle.places.specs.Seams.{seam-left, seam-right, columns-of, other-lengths
 use Rattle.places.specs.Marks.{mark-of}
 use Rattle.places.specs.Links.{hears, heard-at, link-of}
 use Rattle.layout.specs.Words.{settings-from, at-most, stamp-in, stamps-in, side-word}
-use Rattle.calls.specs.Answers.{forwarded-left, ends-left, side-left, halves-left, gap-left, reach-number, reach-left, survey-number, survey-left, columns-number, columns-left, row-seam-number, row-seam-columns, row-seam-side, row-seam-halves, mark-number, mark-left, link-number, link-left}
-use Rattle.calls.specs.Cases.{wall-settings, Tile, Tile-cases, row-0, Planned, Row-cases, held-halves, Seam, Seam-cases, Widest, Widest-cases, Range, Range-cases, Range-in-row, Range-in-row-cases, Survey, Survey-cases, Seam-columns, Seam-columns-cases, row-1, Row-seam, Row-seam-cases, Marked, Mark-cases, Link-at, Link-cases}
+use Rattle.calls.specs.Answers.{forwarded-left, ends-left, side-left, halves-left, gap-left, reach-number, reach-left, survey-number, survey-left, columns-number, columns-left, row-seam-number, row-seam-columns, row-seam-side, row-seam-halves, mark-number, mark-left, link-number, link-left, wide-found, wide-left}
+use Rattle.wide.specs.Wide.{unsigned, half-ticks, if-over, if-wide, seam-first, or-then, first-from, row-first, first-wide, number-of as wide-number}
+use Rattle.calls.specs.Cases.{wall-settings, Tile, Tile-cases, row-0, Planned, Row-cases, held-halves, Seam, Seam-cases, Widest, Widest-cases, Range, Range-cases, Range-in-row, Range-in-row-cases, Survey, Survey-cases, Seam-columns, Seam-columns-cases, row-1, Row-seam, Row-seam-cases, Marked, Mark-cases, Link-at, Link-cases, First-wide, First-wide-cases}
 
 pub tile-cases : Tile-cases
 unfolding Tile-cases Tile wall-settings settings-from settings settings-refusal settings-tests first outside drift-cost up stamps-in stamp-in at-most tile-number forwarded-left forwarded tile-refusal tile-tests stamp-tests any-below late-at late-from silences count-silent answered answer own-stamp neighbour-stamps neighbour-places stamp-at stamp-from silent-at reading-at natural letter heard-letter early-or-kept P correction heard-correction D least-to larger-at larger smaller earliest latest earlier later step-of step
@@ -74,3 +75,7 @@ mark-cases = ((refl, refl), (refl, refl), (refl, refl))
 pub link-cases : Link-cases
 unfolding Link-cases Link-at wall-settings settings-from settings settings-refusal settings-tests first outside drift-cost up link-number link-left link-of heard-at hears any-of predecessors columns-from is-predecessor are-neighbours link-place links-before place-of
 link-cases = ((refl, refl), (refl, refl), (refl, refl))
+
+pub first-wide-cases : First-wide-cases
+unfolding First-wide-cases First-wide wall-settings settings-from settings settings-refusal settings-tests first outside drift-cost up wide-number wide-found wide-left first-wide other-lengths mark-bytes marked seam-left seam-right seam-of late joined unsigned half-ticks if-over if-wide seam-first or-then first-from row-first
+first-wide-cases = ((refl, refl, refl), (refl, refl, refl), (refl, refl, refl), (refl, refl, refl))

@@ -1,6 +1,6 @@
 -- What each function answers and leaves, by the operation's answer: the number, and what is lent to be written, which a refusal
 -- leaves as it was. Assumes nothing.
-use mathlib.Core.Bool.{Bool, cond}
+use mathlib.Core.Bool.{Bool, true, false, cond}
 use mathlib.Core.List.{List, [], _∷_}
 use Prim.Native.Nat.{ℕ, _+_}
 use lib.Dec.{eqb}
@@ -30,6 +30,8 @@ use Rattle.places.specs.declared.marks.Mark.{Mark}
 use Rattle.places.specs.declared.marks.Mark.the-variants as mark
 use Rattle.places.specs.declared.links.Link.{Link}
 use Rattle.places.specs.declared.links.Link.the-variants as link
+use Rattle.wide.specs.declared.First.{First}
+use Rattle.wide.specs.declared.First.the-variants as first
 use Rattle.layout.specs.Words.{unfit, side-word}
 
 -- §17.1 a tile's P, correction, whether it has one, and its letter (§E3.6)
@@ -139,3 +141,15 @@ unfoldable pub link-left : Link → (held : ℕ) → ℕ
 link-left (link.At n) held = n
 link-left link.Outside held = held
 link-left (link.Refused n) held = held
+
+-- §E7.6 whether a row has a wide seam
+unfoldable pub wide-found : First → (held : Bool) → Bool
+wide-found (first.Wide a b g) held = true
+wide-found first.None held = false
+wide-found (first.Refused n) held = held
+
+-- §E7.6 its columns and its half gap in half ticks, where it has one
+unfoldable pub wide-left : First → (held : List ℕ) → List ℕ
+wide-left (first.Wide a b g) held = a ∷ b ∷ g ∷ []
+wide-left first.None held = held
+wide-left (first.Refused n) held = held

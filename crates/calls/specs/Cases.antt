@@ -18,8 +18,9 @@ use Rattle.reach.specs.Answers.{gap-number}
 use Rattle.places.specs.Seams.{columns-of, seam-at}
 use Rattle.places.specs.Marks.{mark-of}
 use Rattle.places.specs.Links.{link-of}
+use Rattle.wide.specs.Wide.{first-wide, number-of as wide-number}
 use Rattle.layout.specs.Words.{settings-from, stamps-in}
-use Rattle.calls.specs.Answers.{forwarded-left, ends-left, side-left, halves-left, gap-left, reach-number, reach-left, survey-number, survey-left, columns-number, columns-left, row-seam-number, row-seam-columns, row-seam-side, row-seam-halves, mark-number, mark-left, link-number, link-left}
+use Rattle.calls.specs.Answers.{forwarded-left, ends-left, side-left, halves-left, gap-left, reach-number, reach-left, survey-number, survey-left, columns-number, columns-left, row-seam-number, row-seam-columns, row-seam-side, row-seam-halves, mark-number, mark-left, link-number, link-left, wide-found, wide-left}
 
 -- §14.4 the settings: W 6, R 1, d 100, u 10, A 400, r 0, h 12
 unfoldable pub wall-settings : Settings
@@ -180,3 +181,17 @@ Link-at c k n at = (link-number (link-of wall-settings c k) ≡ n) × (link-left
 -- §17.4 a link, and none
 unfoldable pub Link-cases : Type 0
 Link-cases = Link-at 2 3 0 9 × Link-at 5 5 0 19 × Link-at 2 4 4294967295 7
+
+-- §E7.6 polzaintu_first_wide of a row without marks: the number, whether there is a wide seam, and its columns and half gap
+unfoldable pub First-wide : (times : List ℕ) → (limit : ℕ) (held : Bool) → (number : ℕ) (found : Bool) → (wide : List ℕ) → Type 0
+First-wide ts limit held n f w =
+    let x = first-wide wall-settings ts (0 ∷ []) limit in
+    (wide-number x ≡ n) × (wide-found x held ≡ f) × (wide-left x (7 ∷ 8 ∷ 9 ∷ []) ≡ w)
+
+-- §E7.6 a wide seam, none, 31 and 21; where there is none its columns are as they were, and a refusal leaves both
+unfoldable pub First-wide-cases : Type 0
+First-wide-cases =
+    First-wide (1500 ∷ 1500 ∷ 1500 ∷ 1536 ∷ 1500 ∷ 1500 ∷ []) 35 false 0 true (2 ∷ 3 ∷ 36 ∷ [])
+    × First-wide (1500 ∷ 1500 ∷ 1500 ∷ 1536 ∷ 1500 ∷ 1500 ∷ []) 36 true 0 false (7 ∷ 8 ∷ 9 ∷ [])
+    × First-wide (0 ∷ 2199023255552 ∷ 0 ∷ 0 ∷ 0 ∷ 0 ∷ []) 0 true 31 true (7 ∷ 8 ∷ 9 ∷ [])
+    × First-wide [] 0 false 21 false (7 ∷ 8 ∷ 9 ∷ [])

@@ -12,6 +12,7 @@ use row::Planned;
 use seam::Seam;
 use settings::Settings;
 use tile::Forwarded;
+use wide::First;
 ghost use mathlib.Core.Path.{_≡_};
 ghost use lib.ListN.{getD};
 ghost use Rattle.tile.specs.Tile.{number-of as Tile·number-of};
@@ -19,7 +20,8 @@ ghost use Rattle.row.specs.Row.{number-of as Row·number-of};
 ghost use Rattle.seam.specs.Seam.{number-of as Seam·number-of};
 ghost use Rattle.reach.specs.Answers.{gap-number};
 ghost use Rattle.reach.specs.Survey.{surveyed-of};
-ghost use Rattle.calls.specs.Answers.{forwarded-left, ends-left, side-left, halves-left, gap-left, reach-number, reach-left, survey-number, survey-left, columns-number, columns-left, row-seam-number, row-seam-columns, row-seam-side, row-seam-halves, mark-number, mark-left, link-number, link-left};
+ghost use Rattle.wide.specs.Wide.{number-of as Wide·number-of};
+ghost use Rattle.calls.specs.Answers.{forwarded-left, ends-left, side-left, halves-left, gap-left, reach-number, reach-left, survey-number, survey-left, columns-number, columns-left, row-seam-number, row-seam-columns, row-seam-side, row-seam-halves, mark-number, mark-left, link-number, link-left, wide-found, wide-left};
 
 // P, the correction, whether there is one, and the letter.
 pub fn forwarded_left(forwarded: Forwarded, answer: &mut [i64; 4]) -> u32
@@ -161,6 +163,30 @@ pub fn row_seam_left(
         }
         RowSeam::Outside => UNFIT,
         RowSeam::Refused(number) => number,
+    }
+}
+
+// Whether there is a wide seam, and then its columns and its half gap in half ticks.
+pub fn first_wide_left(first: First, found: &mut bool, wide: &mut [u64; 3]) -> u32
+    ensures number { λ r. ⌜ r ≡ Wide·number-of first ⌝ }
+    ensures found { λ r. ⌜ now (found .exit) ≡ wide-found first (now (found .entry)) ⌝ }
+    ensures wide { λ r. ⌜ now (wide .exit) ≡ wide-left first (now (wide .entry)) ⌝ }
+{
+    match first {
+        First::Wide {
+            left,
+            right,
+            half_ticks,
+        } => {
+            *found = true;
+            *wide = [left, right, half_ticks];
+            0
+        }
+        First::None => {
+            *found = false;
+            0
+        }
+        First::Refused(number) => number,
     }
 }
 

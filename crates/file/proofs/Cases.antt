@@ -32,11 +32,11 @@ use Rattle.file.specs.Cases.{codes, printed, put, printed-file, Printed-
 use Rattle.file.specs.Refusals.{case, changed, cut, fields-refused, settings-refused, row-refused, order-kept, Refusals-met, latest-start, Latest-start-met, Largest-phase-met}
 
 -- the definitions that a refusal is computed by, and those of the rows and lines that are shown
-refusing : Unit {0}
+unfoldable pub refusing : Unit {0}
 unfolding rows-shown start-shown shown settings-number start-number row-number row-offset row-shown no-marks settings-in times-in late-start tile-place drifts-in phases-in tile-links links-below links-in marks-field row-size marks-in tiles-in call-in field-tests field-refusal body or-else big-endian call lengths-are lengths-right stray-mark late-time crowded over row-tests row-refusal bad-value bad-link bad-links marked mark-bytes faulty-among are-neighbours columns-from is-predecessor predecessors links-before place-in link-place link table-from any-of settings settings-refusal settings-tests drift-cost up first outside any-below put printed-file
 refusing = tt
 
-showing : Unit {0}
+unfoldable pub showing : Unit {0}
 unfolding refusing row-of letters-of pulse letter-at stamp arrival arrives read-at reads first-tick tile-pulse tile-letter letter heard-letter early-or-kept tile-P P heard-correction D least-to larger-at larger smaller natural stamp-of earliest latest earlier later step step-of neighbours wall-text texts-of text-of row-text each-below each-of right-neighbours tile-text seam-text t-line s-line seam-line seam-head halves-words open-words side-word refused-line decimal decimal-in hexadecimal glyph seam-of joined late halves half toBits round codes printed
 showing = tt
 

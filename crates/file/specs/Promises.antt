@@ -5,7 +5,7 @@ use mathlib.Core.Bool.{Bool, true, _||_}
 use mathlib.Core.List.{List, [], _∷_}
 use mathlib.Core.Logic.{_↔_}
 use mathlib.Core.Option.{some}
-use Prim.Native.Nat.{ℕ, _<_}
+use Prim.Native.Nat.{ℕ, _≤_, _<_}
 use lib.Dec.{leb, eqb}
 use lib.ListN.{length, getD}
 use Rattle.columns.specs.Columns.{are-neighbours, any-of}
@@ -47,12 +47,13 @@ in-a-file n = leb n 9 || any-of (22 ∷ 24 ∷ 25 ∷ 26 ∷ 41 ∷ 42 ∷ 43 �
 unfoldable pub Numbers-met : Type 0
 Numbers-met = (file : List ℕ) → in-a-file (number-shown (shown file)) ≡ true
 
--- §10.3 what holds of each seam of a row that is shown: it is not turned away with 31, and it is not `open both`
+-- §10.3 what holds of each row that is shown: it has six tiles or more, and none of its seams is turned away with 31 or is `open both`
 unfoldable pub Seams-hold : Shown → Type 0
 Seams-hold (lines w l ms r) =
-    (a b : ℕ) → a < w → b < w → are-neighbours w a b ≡ true →
+    (6 ≤ w)
+    × ((a b : ℕ) → a < w → b < w → are-neighbours w a b ≡ true →
     let seam = seam-of (getD (r .times) a 0) (marked ms a) (getD (r .times) b 0) (marked ms b) in
-    (number-of seam ≡ 0) × (side-of seam ≡ some Both → ⊥)
+    (number-of seam ≡ 0) × (side-of seam ≡ some Both → ⊥))
 Seams-hold (turned-away n at) = Unit {0}
 
 -- §10.1 something holds of all that is shown

@@ -70,3 +70,12 @@ s-line l a b (Refused n) = []
 -- §10.4 the line of a refusal
 unfoldable pub refused-line : (number offset : ℕ) → List ℕ
 refused-line n at = (refused-word ++ (space ∷ decimal n)) ++ (space ∷ at-word) ++ (space ∷ decimal at) ++ (line-end ∷ [])
+
+-- §15.4 numbers, each after a space
+unfoldable pub numbers-text : List ℕ → List ℕ
+numbers-text [] = []
+numbers-text (n ∷ ns) = (space ∷ decimal n) ++ numbers-text ns
+
+-- §15.4 a line of a word and numbers
+unfoldable pub line-text : (word numbers : List ℕ) → List ℕ
+line-text word ns = (word ++ numbers-text ns) ++ (line-end ∷ [])

@@ -2,10 +2,10 @@
 // writer takes the place to write at in a lent buffer and answers where its text ends.
 ghost use mathlib.Core.Path.{_≡_};
 ghost use mathlib.Core.List.{[], _∷_};
-ghost use Prim.Native.Nat.{_+_, _≤_, _<_};
+ghost use Prim.Native.Nat.{_+_, _*_, _≤_, _<_};
 ghost use lib.ListN.{length};
 ghost use Rattle.lines.specs.Number.{glyph as Number·glyph, decimal as Number·decimal};
-ghost use Rattle.lines.specs.Line.{space, refused-line};
+ghost use Rattle.lines.specs.Line.{space, refused-line, line-text};
 ghost use Rattle.columns.specs.Wrote.{Wrote};
 
 // Room for the text of any step.
@@ -68,5 +68,20 @@ pub fn refused_line(number: u64, offset: u64, out: &mut [u8], at: usize) -> usiz
     let numbered = spaced(number, out, refused);
     let placed = word(b" at", out, numbered);
     let end = spaced(offset, out, placed);
+    byte(b'\n', out, end)
+}
+
+// A line of a word and values, each after a space.
+pub fn line(name: &[u8], values: &[u64], out: &mut [u8], at: usize) -> usize
+    requires { ⌜ at + (length (now name) + 21 * length (now values) + 1) ≤ length (now out) ⌝ }
+    ensures text { λ r. ⌜ Wrote (now (out .entry)) at (line-text (now (name .entry)) (now (values .entry))) (now (out .exit)) r ⌝ }
+    ensures few { λ r. ⌜ r ≤ at + (length (now (name .entry)) + 21 * length (now (values .entry)) + 1) ⌝ }
+{
+    let mut end = word(name, out, at);
+    let mut i = 0;
+    while i < values.len() {
+        end = spaced(values[i], out, end);
+        i += 1;
+    }
     byte(b'\n', out, end)
 }

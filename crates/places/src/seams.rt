@@ -80,7 +80,7 @@ fn between(times: &[u64], marks: &[u8], a: usize, b: usize) -> RowSeam
 }
 
 // 21: other lengths than the row's.
-fn other_lengths(width: usize, times: usize, marks: usize) -> bool
+pub fn other_lengths(width: usize, times: usize, marks: usize) -> bool
     requires { ⌜ width ≤ 256 ⌝ }
     ensures { λ r. ⌜ r ≡ other-lengths width times marks ⌝ }
 {
@@ -90,7 +90,7 @@ fn other_lengths(width: usize, times: usize, marks: usize) -> bool
     marks != (width + 7) / 8
 }
 
-fn left(width: u64, i: u64) -> u64
+pub fn left(width: u64, i: u64) -> u64
     requires { ⌜ (6 ≤ width) × (width ≤ 256) × (i ≤ width) ⌝ }
     ensures is { λ r. ⌜ r ≡ seam-left width i ⌝ }
     ensures inside { λ r. ⌜ r < width ⌝ }
@@ -104,7 +104,7 @@ fn left(width: u64, i: u64) -> u64
     i - 2
 }
 
-fn right(width: u64, i: u64) -> u64
+pub fn right(width: u64, i: u64) -> u64
     requires { ⌜ (6 ≤ width) × (width ≤ 256) × (i ≤ width) ⌝ }
     ensures is { λ r. ⌜ r ≡ seam-right width i ⌝ }
     ensures inside { λ r. ⌜ r < width ⌝ }

@@ -18,8 +18,9 @@ ghost use Rattle.stages.specs.Fit.{due-of, width-of};
 ghost use Rattle.places.specs.Seams.{columns-of, seam-at};
 ghost use Rattle.places.specs.Marks.{mark-of};
 ghost use Rattle.places.specs.Links.{link-of};
+ghost use Rattle.wide.specs.Wide.{first-wide, number-of as Wide·number-of};
 ghost use Rattle.layout.specs.Words.{settings-from, stamps-in, wall-in};
-ghost use Rattle.calls.specs.Answers.{forwarded-left, ends-left, side-left, halves-left, gap-left, reach-number, reach-left, survey-number, survey-left, columns-number, columns-left, row-seam-number, row-seam-columns, row-seam-side, row-seam-halves, mark-number, mark-left, link-number, link-left};
+ghost use Rattle.calls.specs.Answers.{forwarded-left, ends-left, side-left, halves-left, gap-left, reach-number, reach-left, survey-number, survey-left, columns-number, columns-left, row-seam-number, row-seam-columns, row-seam-side, row-seam-halves, mark-number, mark-left, link-number, link-left, wide-found, wide-left};
 ghost use Rattle.wall_calls.specs.Answers.{step-answer, next-left, step-number, wall-left, offset-left};
 ghost use Rattle.waves.specs.Wave.{wave};
 ghost use Rattle.wave_calls.specs.Answers.{start-number, start-left, wave-number, wave-left, wave-side, wave-halves, ask-number, half-ticks-left, ticks-left};
@@ -194,6 +195,26 @@ pub extern "C" fn polzaintu_row_seam(
 }
 
 #[no_mangle]
+pub extern "C" fn polzaintu_first_wide(
+    settings: &[u64; 7],
+    times: &[u64],
+    marks: &[u8],
+    limit: u64,
+    found: &mut bool,
+    wide: &mut [u64; 3],
+) -> u32
+    ensures number { λ r. ⌜ r ≡ Wide·number-of (first-wide (settings-from 0 (now (settings .entry))) (now (times .entry)) (now (marks .entry)) limit) ⌝ }
+    ensures found { λ r. ⌜ now (found .exit) ≡ wide-found (first-wide (settings-from 0 (now (settings .entry))) (now (times .entry)) (now (marks .entry)) limit) (now (found .entry)) ⌝ }
+    ensures wide { λ r. ⌜ now (wide .exit) ≡ wide-left (first-wide (settings-from 0 (now (settings .entry))) (now (times .entry)) (now (marks .entry)) limit) (now (wide .entry)) ⌝ }
+{
+    calls::first_wide_left(
+        wide::first_wide(settings_in(settings), times, marks, limit),
+        found,
+        wide,
+    )
+}
+
+#[no_mangle]
 pub extern "C" fn polzaintu_mark(
     settings: &[u64; 7],
     marks: &[u8],
@@ -349,7 +370,7 @@ pub extern "C" fn polzaintu_board_close_many(board: &mut [u64; 18], n: u64, answ
 // The version as one number.
 #[no_mangle]
 pub extern "C" fn polzaintu_version() -> u32
-    ensures { λ r. ⌜ r ≡ 7000 ⌝ }
+    ensures { λ r. ⌜ r ≡ 8000 ⌝ }
 {
     version::NUMBER
 }

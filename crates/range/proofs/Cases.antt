@@ -20,14 +20,14 @@ use Rattle.reach.specs.Span.{end-within, first-within, last-within}
 use Rattle.reach.specs.Search.{gap-of, outside-wall, reach-of, reach-in-row}
 use Rattle.reach.specs.Survey.{with-reach, with-gap, surveyed-of}
 use Rattle.lines.specs.Number.{glyph, decimal-in, decimal}
-use Rattle.lines.specs.Line.{refused-line}
+use Rattle.lines.specs.Line.{refused-line, numbers-text, line-text}
 use Rattle.lines.specs.Promises.{is-digit, value-of}
 use Rattle.fields.specs.Bytes.{big-endian}
 use Rattle.fields.specs.Field.{field-tests, field-refusal, body, or-else}
 use Rattle.contents.specs.Contents.{settings-in, times-in, late-start, tile-place, drifts-in, phases-in, tile-links, links-below, links-in, marks-field, row-size, marks-in, tiles-in, call-in}
 use Rattle.file.specs.Cases.{codes, printed, put, printed-file}
 use Rattle.steps.specs.Number.{settings-number, start-number, row-number, row-offset}
-use Rattle.search_lines.specs.Text.{numbers-text, line-text, largest-text, reach-text, reach-texts, gap-text}
+use Rattle.search_lines.specs.Text.{largest-text, reach-text, reach-texts, gap-text}
 use Rattle.telling.specs.Telling.{first-in, first-marked}
 use Rattle.range.specs.File.{with-lines, rows-told, start-told, file-told, search-text}
 use Rattle.range.specs.Read.{read-from, last-number}

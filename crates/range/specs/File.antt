@@ -9,11 +9,11 @@ use Rattle.row.specs.Row.{row-of}
 use Rattle.reach.specs.Survey.{surveyed-of}
 use Rattle.reach.specs.declared.survey.Surveyed.{Surveyed}
 use Rattle.reach.specs.declared.survey.Surveyed.the-variants as surveyed
-use Rattle.lines.specs.Line.{refused-line}
+use Rattle.lines.specs.Line.{refused-line, line-text}
 use Rattle.fields.specs.Field.{body}
 use Rattle.contents.specs.Contents.{settings-size, settings-in, start-size, times-in, row-size, marks-in, call-in}
 use Rattle.steps.specs.Number.{settings-number, start-number, row-number, row-offset}
-use Rattle.search_lines.specs.Text.{faulty-word, line-text, largest-text, gap-text}
+use Rattle.search_lines.specs.Text.{faulty-word, largest-text, gap-text}
 use Rattle.telling.specs.Telling.{first-marked}
 
 -- §15.4 row l's lines, and then what follows with the largest reach of the rows so far; every row of a wall file has them (`Row-surveyed`)

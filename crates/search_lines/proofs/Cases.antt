@@ -8,7 +8,8 @@ use Rattle.reach.specs.Span.{end-within, first-within, last-within}
 use Rattle.reach.specs.Search.{outside-wall, reach-of, reach-in-row}
 use Rattle.lines.specs.Number.{glyph, decimal-in, decimal}
 use Rattle.file.specs.Cases.{codes, printed}
-use Rattle.search_lines.specs.Text.{numbers-text, line-text, largest-text, reach-text, reach-texts, gap-text}
+use Rattle.lines.specs.Line.{numbers-text, line-text}
+use Rattle.search_lines.specs.Text.{largest-text, reach-text, reach-texts, gap-text}
 use Rattle.search_lines.specs.Cases.{wall, Line-cases}
 
 pub line-cases : Line-cases

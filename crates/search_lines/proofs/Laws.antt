@@ -11,19 +11,9 @@ use Rattle.settings.specs.declared.Settings.{Settings}
 use Rattle.reach.specs.Search.{reach-in-row}
 use Rattle.reach.specs.declared.Reached.{Reached}
 use Rattle.reach.specs.declared.Reached.the-variants.{Within, Outside, Refused}
-use Rattle.lines.specs.Number.{decimal}
-use Rattle.lines.specs.Line.{space}
-use Rattle.lines.proofs.Laws.Number.{decimal-length}
-use Rattle.search_lines.specs.Text.{b-word, r-word, numbers-text, line-text, reach-text, reach-texts, gap-text}
-
--- one more number of a line
-numbers-append : (ns : List ℕ) (n : ℕ) → numbers-text (ns ++ (n ∷ [])) ≡ numbers-text ns ++ (space ∷ decimal n)
-unfolding numbers-text
-numbers-append [] n = append-nil (space ∷ decimal n)
-numbers-append (k ∷ ns) n = ap (λ (t : List ℕ). (space ∷ decimal k) ++ t) (numbers-append ns n) ∙ sym (append-assoc (space ∷ decimal k) (numbers-text ns) (space ∷ decimal n))
-
-pub numbers-more : (ns : List ℕ) (i : ℕ) → i < length ns → numbers-text (take i ns) ++ (space ∷ decimal (getD ns i 0)) ≡ numbers-text (take (i + 1) ns)
-numbers-more ns i l = sym (numbers-append (take i ns) (getD ns i 0)) ∙ ap numbers-text (rw add-one (sym (take-suc ns i 0 l)))
+use Rattle.lines.specs.Line.{line-text}
+use Rattle.lines.proofs.Laws.Line.{line-length}
+use Rattle.search_lines.specs.Text.{b-word, r-word, reach-text, reach-texts, gap-text}
 
 -- one more row that is asked for
 module _ (s : Settings) (b f : ℕ) where
@@ -39,15 +29,6 @@ module _ (s : Settings) (b f : ℕ) where
   texts-more ls i l = sym (texts-append (take i ls) (getD ls i 0)) ∙ ap (reach-texts s b f) (rw add-one (sym (take-suc ls i 0 l)))
 
 -- how long they are
-pub numbers-length : (ns : List ℕ) → length (numbers-text ns) ≤ 21 * length ns
-unfolding numbers-text
-numbers-length [] = omega arith
-numbers-length (n ∷ ns) = omega (arith, numbers-length ns, decimal-length n, length-append (space ∷ decimal n) (numbers-text ns))
-
-pub line-length : (word ns : List ℕ) → length (line-text word ns) ≤ length word + 21 * length ns + 1
-unfolding line-text
-line-length word ns = omega (arith, numbers-length ns, length-append word (numbers-text ns), length-append (word ++ numbers-text ns) (10 ∷ []))
-
 pub reach-length : (f l : ℕ) (r : Reached) → length (reach-text f l r) ≤ 86
 unfolding reach-text
 reach-length f l (Within r) = omega (arith, line-length r-word (f ∷ l ∷ r .ticks ∷ (l - f) ∷ []))

@@ -5,7 +5,8 @@ use mathlib.Core.List.{[], _∷_}
 use Rattle.settings.specs.Settings.{settings}
 use Rattle.settings.specs.declared.Settings.{Settings}
 use Rattle.file.specs.Cases.{printed}
-use Rattle.search_lines.specs.Text.{faulty-word, line-text, largest-text, gap-text}
+use Rattle.lines.specs.Line.{line-text}
+use Rattle.search_lines.specs.Text.{faulty-word, largest-text, gap-text}
 
 -- §15.4 W 10, R 5, d 100, u 10, A 400, r 0, h 12
 unfoldable pub wall : Settings

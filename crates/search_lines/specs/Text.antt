@@ -6,7 +6,7 @@ use Rattle.reach.specs.Search.{reach-in-row}
 use Rattle.reach.specs.declared.Reached.{Reached}
 use Rattle.reach.specs.declared.Reached.the-variants.{Within, Outside, Refused}
 use Rattle.lines.specs.Number.{decimal}
-use Rattle.lines.specs.Line.{space, line-end}
+use Rattle.lines.specs.Line.{space, line-end, line-text}
 
 -- §15.4 `b`
 abbrev pub b-word : List ℕ
@@ -27,15 +27,6 @@ largest-word = 108 ∷ 97 ∷ 114 ∷ 103 ∷ 101 ∷ 115 ∷ 116 ∷ []
 -- §15.4 `ticks`
 abbrev pub ticks-word : List ℕ
 ticks-word = 116 ∷ 105 ∷ 99 ∷ 107 ∷ 115 ∷ []
-
--- §15.4 numbers, each after a space
-unfoldable pub numbers-text : List ℕ → List ℕ
-numbers-text [] = []
-numbers-text (n ∷ ns) = (space ∷ decimal n) ++ numbers-text ns
-
--- §15.4 a line of a word and numbers
-unfoldable pub line-text : (word numbers : List ℕ) → List ℕ
-line-text word ns = (word ++ numbers-text ns) ++ (line-end ∷ [])
 
 -- §15.4 the last line of a whole answer: a word stands behind the number, so that one that is cut short can be told
 unfoldable pub largest-text : (largest : ℕ) → List ℕ

@@ -1,5 +1,6 @@
 // The lines of a search: a word and numbers.
 use lines::byte;
+use lines::line;
 use lines::spaced;
 use lines::word;
 use reach::Reached;
@@ -7,27 +8,12 @@ use reach::reach_in_row;
 use settings::rounding::less;
 use settings::rounding::smaller;
 use stages::Place;
-ghost use Prim.Native.Nat.{_+_, _*_, _≤_};
+ghost use Prim.Native.Nat.{_+_, _≤_};
 ghost use lib.ListN.{length, take};
 ghost use Rattle.columns.specs.Wrote.{Wrote};
 ghost use Rattle.lines.specs.Row.{step-room};
 ghost use Rattle.reach.specs.Search.{reach-in-row};
-ghost use Rattle.search_lines.specs.Text.{line-text, largest-text, reach-text, gap-text};
-
-// The word, then the values, each after a space.
-pub fn line(name: &[u8], values: &[u64], out: &mut [u8], at: usize) -> usize
-    requires { ⌜ at + (length (now name) + 21 * length (now values) + 1) ≤ length (now out) ⌝ }
-    ensures text { λ r. ⌜ Wrote (now (out .entry)) at (line-text (now (name .entry)) (now (values .entry))) (now (out .exit)) r ⌝ }
-    ensures few { λ r. ⌜ r ≤ at + (length (now (name .entry)) + 21 * length (now (values .entry)) + 1) ⌝ }
-{
-    let mut end = word(name, out, at);
-    let mut i = 0;
-    while i < values.len() {
-        end = spaced(values[i], out, end);
-        i += 1;
-    }
-    byte(b'\n', out, end)
-}
+ghost use Rattle.search_lines.specs.Text.{largest-text, reach-text, gap-text};
 
 // The largest reach over the wall, the last line of a whole answer.
 pub fn largest_line(largest: u64, out: &mut [u8], at: usize) -> usize

@@ -1,13 +1,13 @@
 // Where the wall file of a call comes from, and what a program says of its call itself: its use, its version, a word that is
-// wrong, a file that can't be opened.
+// wrong or missing, a file that can't be opened.
 use arguments::Call;
 use libc::STDERR_FILENO;
 use libc::STDIN_FILENO;
 use libc::STDOUT_FILENO;
 
-// Where the wall file that a call asks for is read from, or -1 where something is said in its place. `usage` is a line,
-// `about` the lines that `--help` prints behind it.
-pub fn of_call(call: Call, name: &[u8], usage: &[u8], about: &[u8]) -> i32 {
+// Where the wall file that a call asks for is read from, or -1 where something is said in its place. `needed` says what a call
+// has to have, as `a limit`, and is empty where that is nothing; `usage` is a line, `about` the lines that `--help` prints behind it.
+pub fn of_call(call: Call, name: &[u8], needed: &[u8], usage: &[u8], about: &[u8]) -> i32 {
     match call {
         Call::Input => {
             return STDIN_FILENO;
@@ -17,6 +17,7 @@ pub fn of_call(call: Call, name: &[u8], usage: &[u8], about: &[u8]) -> i32 {
         }
         Call::Help => told(help(usage, about), name),
         Call::Version => told(version(name), name),
+        Call::Missing => missing(name, needed, usage),
         Call::Wrong(i) => wrong(i, name, usage),
     }
     -1
@@ -54,6 +55,15 @@ fn told(written: bool, name: &[u8]) {
     if !written {
         fail(name, b"writing");
     }
+}
+
+// Says what is missing, and the use.
+fn missing(name: &[u8], needed: &[u8], usage: &[u8]) {
+    io::write_all(STDERR_FILENO, name);
+    io::write_all(STDERR_FILENO, b": ");
+    io::write_all(STDERR_FILENO, needed);
+    io::write_all(STDERR_FILENO, b" is missing\n");
+    io::write_all(STDERR_FILENO, usage);
 }
 
 // Says which word is wrong, and the use. One that is too long for the buffer is said to be so.

@@ -21,15 +21,15 @@ Turn-right {K} step first =
     Advanced step m k after lent output r l lent-after output-after →
     Standing step first r l after lent-after output-after
 
--- §16.4 a run that is done has handed over what the definition of the whole gives for the bytes that were delivered, in whatever pieces. One
--- whose read or write failed has handed over a beginning of that, whatever bytes would have followed.
+-- §16.4 a run that is done has handed over what the definition of the whole gives for the bytes that were delivered, in whatever pieces, and
+-- whatever bytes follow them unread. One whose read or write failed has handed over a beginning of that.
 unfoldable pub Run-right : {K : Type 0} → Kind K → (first : K) → (whole : (file : List ℕ) → List ℕ) → Type 0
 Run-right {K} step first whole =
     (r : Outcome) (k : K) (lent : Pulses) (output : List ℕ) (e : Ends step first r k lent output) →
     let delivered = e .ran .delivered in
     let handed = e .ran .handed in
-    (r .ended ≡ Done → handed ≡ whole delivered)
-    × ((rest : List ℕ) → (r .state .window .ended ≡ true → rest ≡ []) → take (length handed) (whole (delivered ++ rest)) ≡ handed)
+    (rest : List ℕ) → (r .state .window .ended ≡ true → rest ≡ []) →
+    (r .ended ≡ Done → handed ≡ whole (delivered ++ rest)) × (take (length handed) (whole (delivered ++ rest)) ≡ handed)
 
 -- §16.4 a run that is done, with a file delivered to it
 pub record Done-with {K : Type 0} (step : Kind K) (first : K) (file : List ℕ) : Type 0 where

@@ -28,8 +28,9 @@ brings step x k r bs = step x k (cut (width-of x) r) (take (due-of x) bs)
 -- whatever pieces, and `text` is that of the steps so far.
 pub data Turns {K : Type 0} (step : Kind K) (first : K) : (ended : Bool) → Wall → K → (lent : Pulses) (held delivered text : List ℕ) → Type 0 where
   begins : {lent : Pulses} → Turns step first false New first lent [] [] []
-  -- what is read comes behind what is held
-  reads : {x : Wall} {k : K} {lent : Pulses} {held delivered text : List ℕ} → (piece : List ℕ) → Turns step first false x k lent held delivered text →
+  -- §E7.5 what is read comes behind what is held; nothing is read where the due part is there
+  reads : {x : Wall} {k : K} {lent : Pulses} {held delivered text : List ℕ} → (piece : List ℕ) → length held < due-of x →
+      Turns step first false x k lent held delivered text →
       Turns step first false x k lent (held ++ piece) (delivered ++ piece) text
   -- the input has ended: nothing more is read
   ends : {x : Wall} {k : K} {lent : Pulses} {held delivered text : List ℕ} → Turns step first false x k lent held delivered text →

@@ -10,15 +10,16 @@ use Rattle.reach.specs.Span.{end-within, first-within, last-within}
 use Rattle.reach.specs.Search.{gap-of, outside-wall, reach-of, reach-in-row}
 use Rattle.reach.specs.Survey.{with-reach, with-gap, surveyed-of}
 use Rattle.lines.specs.Number.{glyph, decimal-in, decimal}
-use Rattle.lines.specs.Line.{refused-line}
+use Rattle.lines.specs.Line.{refused-line, numbers-text, line-text}
 use Rattle.fields.specs.Field.{field-tests, field-refusal, or-else}
 use Rattle.stages.specs.Fit.{place}
 use Rattle.steps.specs.Number.{settings-number}
 use Rattle.steps.specs.Shown.{row-shown, number-shown, offset-shown}
 use Rattle.steps.specs.Step.{stepped, away, settings-step, end-step, step-of}
-use Rattle.search_lines.specs.Text.{numbers-text, line-text, largest-text, reach-text, reach-texts, gap-text}
+use Rattle.search_lines.specs.Text.{largest-text, reach-text, reach-texts, gap-text}
 use Rattle.file.specs.Cases.{codes, printed}
-use Rattle.telling.specs.Telling.{first-in, first-marked, says, survey-says, row-says, step-says, telling}
+use Rattle.told.specs.Telling.{says}
+use Rattle.telling.specs.Telling.{first-in, first-marked, survey-says, row-says, step-says, telling}
 use Rattle.telling.specs.Cases.{Marked-cases, at-row, row-0, Row-cases, End-cases}
 
 pub marked-cases : Marked-cases

@@ -1,3 +1,2 @@
 -- The laws of the definitions, each file over one of them.
 pub mod Telling
-pub mod Step

@@ -8,7 +8,8 @@ use Rattle.stages.specs.Fit.{place}
 use Rattle.stages.specs.declared.Place.{Place}
 use Rattle.stages.specs.declared.Wall.the-variants.{New, End, Over}
 use Rattle.file.specs.Cases.{printed}
-use Rattle.telling.specs.Telling.{first-marked, says, row-says, telling}
+use Rattle.told.specs.Telling.{says}
+use Rattle.telling.specs.Telling.{first-marked, row-says, telling}
 
 -- §7.2 a bit for each column, from the lowest of the first byte on: no mark, that of column 3, of columns 3 and 1, of column 9
 unfoldable pub Marked-cases : Type 0

@@ -7,7 +7,7 @@ use Rattle.columns.specs.Marks.{marked}
 use Rattle.reach.specs.Survey.{surveyed-of}
 use Rattle.reach.specs.declared.survey.Surveyed.{Surveyed}
 use Rattle.reach.specs.declared.survey.Surveyed.the-variants as surveyed
-use Rattle.lines.specs.Line.{refused-line}
+use Rattle.lines.specs.Line.{refused-line, line-text}
 use Rattle.row.specs.Row.{pulses}
 use Rattle.contents.specs.Contents.{marks-in}
 use Rattle.steps.specs.Step.{step-of}
@@ -15,7 +15,8 @@ use Rattle.steps.specs.Shown.{number-shown, offset-shown}
 use Rattle.stages.specs.declared.Place.{Place}
 use Rattle.stages.specs.declared.Wall.{Wall}
 use Rattle.stages.specs.declared.Wall.the-variants.{New, Start, Row, End, Over}
-use Rattle.search_lines.specs.Text.{faulty-word, line-text, largest-text, gap-text}
+use Rattle.told.specs.Telling.{Telling, says}
+use Rattle.search_lines.specs.Text.{faulty-word, largest-text, gap-text}
 
 -- §15.4 the lowest marked column of the n from c on, or the one behind them
 unfoldable pub first-in : (n c : ℕ) → (marks : List ℕ) → ℕ
@@ -25,16 +26,6 @@ first-in (suc n) c ms = cond (marked ms c) c (first-in n (suc c) ms)
 -- §15.4 the lowest marked column of a row, or W
 unfoldable pub first-marked : (w : ℕ) → (marks : List ℕ) → ℕ
 first-marked w ms = first-in w 0 ms
-
--- §15.4 the wall as it then stands, the largest reach so far, and what is printed
-pub record Telling : Type 0 where
-  pub wall : Wall
-  pub largest : ℕ
-  pub text : List ℕ
-
--- §15.4 the record of these
-unfoldable pub says : Wall → (largest : ℕ) → (text : List ℕ) → Telling
-says x m t = record { wall = x; largest = m; text = t }
 
 -- §15.4 a row without faults: its lines. No row of a wall file is turned away (`Row-surveyed`).
 unfoldable pub survey-says : (asked : List ℕ) → Place → (after : Wall) → (largest : ℕ) → Surveyed → Telling

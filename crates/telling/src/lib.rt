@@ -1,15 +1,14 @@
 // What a step brought: nothing yet, a row's B and reach, a faulty tile, a refusal, or the largest reach.
-pub mod step;
-
 use columns::marked;
+use lines::line;
 use reach::survey::Surveyed;
 use reach::survey::survey;
 use search_lines::largest_line;
-use search_lines::line;
 use search_lines::row_lines;
 use stages::Place;
 use stages::Wall;
 use steps::Taken;
+use told::Told;
 ghost use mathlib.Core.Path.{_≡_};
 ghost use mathlib.Core.Bool.{true};
 ghost use Prim.Native.Nat.{_+_, _≤_};
@@ -22,14 +21,7 @@ ghost use Rattle.steps.specs.Take.{taken-of};
 ghost use mathlib.Core.List.{[]};
 ghost use Rattle.row.specs.Row.{pulses};
 ghost use Rattle.telling.specs.Telling.{first-marked, row-says, telling};
-ghost use Rattle.telling.specs.Said.{Said};
-
-// The wall as it then stands, the largest reach so far, and where the text ends.
-pub struct Told {
-    pub wall: Wall,
-    pub largest: u64,
-    pub end: usize,
-}
+ghost use Rattle.told.specs.Telling.{Said};
 
 // The row is the last before the step, and the part is what the step took.
 pub fn tell(
@@ -51,19 +43,19 @@ pub fn tell(
         let end = lines::refused_line(number as u64, taken.offset, out, at);
         return Told {
             wall: after,
-            largest,
+            kept: largest,
             end,
         };
     }
     match wall {
         Wall::New => Told {
             wall: after,
-            largest,
+            kept: largest,
             end: at,
         },
         Wall::Start(_) => Told {
             wall: after,
-            largest,
+            kept: largest,
             end: at,
         },
         Wall::Row(place) => {
@@ -83,13 +75,13 @@ pub fn tell(
             let end = largest_line(largest, out, at);
             Told {
                 wall: after,
-                largest,
+                kept: largest,
                 end,
             }
         }
         Wall::Over => Told {
             wall: after,
-            largest,
+            kept: largest,
             end: at,
         },
     }
@@ -115,7 +107,7 @@ fn row_told(
         let end = line(b"faulty", &[place.row, column as u64], out, at);
         return Told {
             wall: Wall::Over,
-            largest,
+            kept: largest,
             end,
         };
     }
@@ -125,19 +117,19 @@ fn row_told(
             let end = row_lines(asked, place, gap, out, at);
             Told {
                 wall: after,
-                largest,
+                kept: largest,
                 end,
             }
         }
         // No row of a wall file is such a one.
         Surveyed::Outside => Told {
             wall: Wall::Over,
-            largest,
+            kept: largest,
             end: at,
         },
         Surveyed::Refused(_) => Told {
             wall: Wall::Over,
-            largest,
+            kept: largest,
             end: at,
         },
     }

@@ -78,8 +78,8 @@ pub fn step_by(
     )
 }
 
-// With room for the next row and its letters.
-fn step_in(
+// With room for the next row and its letters too, and for the text of any step.
+pub fn step_in(
     wall: Wall,
     tables: &[u64],
     links: &mut [u64],

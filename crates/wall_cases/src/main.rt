@@ -23,7 +23,8 @@ fn case(i: usize) {
         os::fail(name);
         return;
     }
-    let outcome = print::run(file, STDOUT_FILENO);
+    let passed = pass::lines(file, STDOUT_FILENO);
+    let outcome = passed.outcome;
     let ended = outcome.ended;
     match ended {
         Ended::Done => {}

@@ -5,16 +5,17 @@ use stream::Ended;
 fn main() {
     let mut asked = [0u64; 16];
     let from = source::of_call(
-        arguments::read(1, 1024, &mut asked),
+        arguments::read(0, 1, 1024, &mut asked),
         b"wallreach",
+        b"",
         b"usage: wallreach [ROW]... [FILE], with at most 16 rows from 1 to 1024\n",
         b"Reads a wall file without faults, or standard input, and writes how far one\nbroken tile can reach to standard output. The manual is docs/man/wallreach.1.\n",
     );
     if from < 0 {
         return;
     }
-    let found = search::run(from, STDOUT_FILENO, &asked);
-    let outcome = found.outcome;
+    let passed = pass::search(from, STDOUT_FILENO, &asked);
+    let outcome = passed.outcome;
     let ended = outcome.ended;
     match ended {
         Ended::Done => {}

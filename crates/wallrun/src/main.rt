@@ -5,15 +5,17 @@ use stream::Ended;
 fn main() {
     let mut numbers = [0u64; 0];
     let from = source::of_call(
-        arguments::read(0, 0, &mut numbers),
+        arguments::read(0, 0, 0, &mut numbers),
         b"wallrun",
+        b"",
         b"usage: wallrun [FILE]\n",
         b"Reads a wall file, or standard input, and writes the pulse times and the seams\nof its rows to standard output. The manual is docs/man/wallrun.1.\n",
     );
     if from < 0 {
         return;
     }
-    let outcome = print::run(from, STDOUT_FILENO);
+    let passed = pass::lines(from, STDOUT_FILENO);
+    let outcome = passed.outcome;
     let ended = outcome.ended;
     match ended {
         Ended::Done => {}

@@ -10,8 +10,9 @@ fn main() -> ExitCode {
     let program = Program {
         name: "reachref",
         usage: "usage: reachref [ROW]... [FILE], with at most 16 rows from 1 to 1024",
-        most: MOST_ASKED,
+        counts: 0..=MOST_ASKED,
         range: ROWS,
+        number: "a row",
     };
     answer(&program, |asked, file, out| {
         wallreach(file, asked, out).map(drop)

@@ -9,8 +9,9 @@ fn main() -> ExitCode {
     let program = Program {
         name: "wallref",
         usage: "usage: wallref [FILE]",
-        most: 0,
+        counts: 0..=0,
         range: 0..=0,
+        number: "a number",
     };
     answer(&program, |_, file, out| wallrun(file, out).map(drop))
 }

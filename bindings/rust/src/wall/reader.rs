@@ -1,7 +1,7 @@
 //! The rows of a wall file that is read.
 
 use super::search::Search;
-use super::{Refused, Row, SearchError, SearchRange, Stage, Wall};
+use super::{Refused, Row, SearchError, SearchRange, Stage, Wall, Wide};
 use crate::Settings;
 use std::io::{self, Read};
 use std::iter::FusedIterator;
@@ -53,6 +53,15 @@ pub enum Error {
     Refused(Refused),
     /// The file could not be read.
     Read(io::Error),
+}
+
+/// A seam of a wall whose half gap is over a limit, with its row.
+#[derive(Clone, Copy, Debug, PartialEq, Eq, Hash)]
+pub struct WideSeam {
+    /// Its row, 1 to R.
+    pub row: u64,
+    /// Its columns and its half gap.
+    pub seam: Wide,
 }
 
 impl<R: Read> Reader<R> {
@@ -124,6 +133,38 @@ impl<R: Read> Reader<R> {
         let settings = self.settings()?;
         let range = self.search.range(settings);
         Ok(range.expect("each row of a file that has ended is surveyed"))
+    }
+
+    /// The first wide seam of the wall, in the order of `wallrun`'s lines: closed, and with a half
+    /// gap, its sign dropped, of more half ticks than the limit. `None` where the file ends rightly
+    /// without one. An error that comes before it is answered in its place: the seams of a row come
+    /// once the next row is accepted, those of the last once the file has ended.
+    ///
+    /// It reads no further than to the answer, whatever follows. Rows that were yielded before are
+    /// not looked at again.
+    ///
+    /// ```
+    /// use polzaintu::wall::{Reader, Wide, WideSeam};
+    /// # use polzaintu::wall::Error;
+    /// # let path = concat!(env!("CARGO_MANIFEST_DIR"), "/../../crates/wallrun/stdin");
+    /// # let file = std::fs::read(path)?;
+    /// let seam = Wide { left: 2, right: 3, half_ticks: 36 };
+    /// assert_eq!(Reader::new(&file[..]).first_wide(35)?, Some(WideSeam { row: 1, seam }));
+    /// assert_eq!(Reader::new(&file[..]).first_wide(36)?, None);
+    /// # Ok::<(), Error>(())
+    /// ```
+    pub fn first_wide(mut self, limit: u64) -> Result<Option<WideSeam>, Error> {
+        while self.wall.stage() != Stage::Ended {
+            // Row 0 is not shown.
+            let Some(row) = self.step()?.filter(|row| row.number() > 0) else {
+                continue;
+            };
+            if let Some(seam) = row.first_wide(limit) {
+                let row = row.number();
+                return Ok(Some(WideSeam { row, seam }));
+            }
+        }
+        Ok(None)
     }
 
     /// Takes one step, and answers the row that is then known, row 0 included. After a failed read

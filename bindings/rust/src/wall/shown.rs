@@ -1,8 +1,11 @@
 //! A row as it is shown: its times and letters, which of its tiles are faulty, and its seams.
 
 use super::Pulses;
-use crate::seam::{self, RowSeam};
+use crate::seam::{self, RowSeam, Wide};
 use crate::{row, Letter, Settings};
+
+/// Why no seam of a file's row is turned away.
+const TIMES: &str = "a file's times stay below 2^41";
 
 /// A row of an accepted part of a wall file, 1 to R.
 #[derive(Clone, Debug, PartialEq, Eq)]
@@ -90,8 +93,16 @@ impl Row {
     pub fn seams(&self) -> impl Iterator<Item = RowSeam> + '_ {
         (0..=self.times().len()).map(|place| {
             let seam = seam::row_seam(&self.settings, self.times(), &self.marks, place);
-            let seam = seam.expect("a file's times stay below 2^41");
+            let seam = seam.expect(TIMES);
             seam.expect("a row has W + 1 seams")
         })
+    }
+
+    /// The first of these seams that is closed and whose half gap, its sign dropped, is more half
+    /// ticks than the limit. `None` where the row has none.
+    #[must_use]
+    pub fn first_wide(&self, limit: u64) -> Option<Wide> {
+        let wide = seam::first_wide(&self.settings, self.times(), &self.marks, limit);
+        wide.expect(TIMES)
     }
 }

@@ -2,9 +2,9 @@
 //! print.
 
 use polzaintu::seam::{Seam, Side};
-use polzaintu::wall::{Error, Reader, Row, RowSeam, Tile};
-use std::fs;
+use polzaintu::wall::{Error, Reader, Row, RowSeam, Tile, WideSeam};
 use std::path::{Path, PathBuf};
+use std::{fs, iter};
 
 fn repository() -> PathBuf {
     Path::new(env!("CARGO_MANIFEST_DIR")).join("../..")
@@ -75,6 +75,70 @@ fn example_wall() {
         lines(&example.join("stdin")),
         printed.lines().collect::<Vec<_>>()
     );
+}
+
+/// What the lines of a file show first: a closed seam whose half gap is over the limit, or a
+/// refusal.
+fn first_shown(lines: &[&str], limit: u64) -> Option<String> {
+    let shown = |line: &&str| match line.split(' ').collect::<Vec<_>>()[..] {
+        ["refused", ..] => Some(line.to_string()),
+        ["s", _, _, _, "open", _] => None,
+        ["s", row, left, right, _, bits] => {
+            let half_ticks = half_ticks(bits);
+            (half_ticks > limit).then(|| format!("wide {row} {left} {right} {half_ticks}"))
+        }
+        _ => None,
+    };
+    lines.iter().find_map(shown)
+}
+
+/// A half gap in half ticks, its sign dropped, from its bits in a line.
+fn half_ticks(bits: &str) -> u64 {
+    let bits = u64::from_str_radix(bits, 16).unwrap();
+    (2.0 * f64::from_bits(bits).abs()) as u64
+}
+
+/// The same by the reader.
+fn first_wide(file: &[u8], limit: u64) -> Option<String> {
+    match Reader::new(file).first_wide(limit) {
+        Ok(found) => found.map(|WideSeam { row, seam }| {
+            let (left, right, half_ticks) = (seam.left, seam.right, seam.half_ticks);
+            format!("wide {row} {left} {right} {half_ticks}")
+        }),
+        Err(Error::Refused(refused)) => {
+            let (number, offset) = (refused.refusal.number(), refused.offset);
+            Some(format!("refused {number} at {offset}"))
+        }
+        Err(Error::Read(error)) => panic!("{error}"),
+    }
+}
+
+/// The first wide seam of every stored file, for each limit at which it is another.
+#[test]
+fn first_wide_seams() {
+    let cases = repository().join("crates/wall_cases");
+    let (args, stdout) = (read(cases.join("args")), read(cases.join("stdout")));
+    let mut expected = stdout.lines().peekable();
+    for name in args.lines() {
+        assert_eq!(expected.next(), Some(name));
+        // A name is one word, and a line more.
+        let lines = iter::from_fn(|| expected.next_if(|line| line.contains(' ')));
+        let lines: Vec<_> = lines.collect();
+        let file = fs::read(cases.join("data").join(name)).unwrap();
+        let mut limit = 0;
+        loop {
+            let shown = first_shown(&lines, limit);
+            assert_eq!(first_wide(&file, limit), shown, "{name} {limit}");
+            // From this gap on another is the first.
+            match shown.as_deref().and_then(|line| line.strip_prefix("wide ")) {
+                Some(seam) => limit = seam.rsplit(' ').next().unwrap().parse().unwrap(),
+                None => break,
+            }
+            assert_eq!(first_wide(&file, limit - 1), shown, "{name} {limit} - 1");
+        }
+        assert_eq!(first_wide(&file, u64::MAX), first_shown(&lines, u64::MAX));
+    }
+    assert_eq!(expected.next(), None);
 }
 
 /// Each line that `wallreach` is expected to print of its wall.

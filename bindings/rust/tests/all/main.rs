@@ -15,3 +15,5 @@ mod settings;
 mod tile;
 mod wall;
 mod waves;
+mod wide;
+mod wide_files;

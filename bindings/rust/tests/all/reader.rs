@@ -7,14 +7,14 @@ use polzaintu::wall::{Error, Reader, Row, SearchError, Tile};
 use std::io::{self, ErrorKind, Read};
 
 /// Gives a byte at a time and is interrupted before each. Where `fails`, it ends with an error.
-struct Halting<'a> {
+pub struct Halting<'a> {
     bytes: &'a [u8],
     interrupted: bool,
     fails: bool,
 }
 
 impl<'a> Halting<'a> {
-    fn new(bytes: &'a [u8], fails: bool) -> Halting<'a> {
+    pub fn new(bytes: &'a [u8], fails: bool) -> Halting<'a> {
         Halting {
             bytes,
             interrupted: false,

@@ -115,6 +115,9 @@ fn files_say_where() {
 #[test]
 fn seams_say_what_is_wrong() {
     says(seam::join(Some(1 << 41), None).unwrap_err(), 31);
+    let first_wide = |times: &[u64]| seam::first_wide(&settings(PRINTED), times, &[0], 0);
+    says(first_wide(&[0; 5]).unwrap_err(), 21);
+    says(first_wide(&[1 << 41; 6]).unwrap_err(), 31);
 }
 
 #[test]

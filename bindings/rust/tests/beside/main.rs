@@ -9,6 +9,7 @@
 mod board;
 mod rows;
 mod waves;
+mod wide;
 
 use polzaintu::Limits;
 use std::collections::BTreeSet;
@@ -29,7 +30,7 @@ struct Kind {
     run: fn(u64, &mut Tally) -> Result<(), Difference>,
 }
 
-const KINDS: [Kind; 3] = [
+const KINDS: [Kind; 4] = [
     Kind {
         name: "waves",
         answers: &waves::ANSWERS,
@@ -44,6 +45,11 @@ const KINDS: [Kind; 3] = [
         name: "running tiles",
         answers: &board::ANSWERS,
         run: board::run,
+    },
+    Kind {
+        name: "wide seams",
+        answers: &wide::ANSWERS,
+        run: wide::run,
     },
 ];
 

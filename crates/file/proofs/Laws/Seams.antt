@@ -10,6 +10,7 @@ use native.Mathlib.Omega.{arith}
 use borrow.Author.Tests.{eq-eqb, ne-eqb}
 use Rattle.settings.specs.declared.Settings.{Settings}
 use Rattle.settings.proofs.Laws.Cases.{by-equal, by-order}
+use Rattle.settings.proofs.Laws.Settings.{limits}
 use Rattle.columns.specs.Columns.{are-neighbours}
 use Rattle.admission.specs.Call.{Call, call}
 use Rattle.columns.specs.Marks.{marked, mark-bytes}
@@ -63,8 +64,11 @@ none-marked w c = rw (zero-at (mark-bytes w) (c / 8), zero-div (2 ^ (c % 8)))
 -- a row that is shown
 row-holds : (s : Settings) (l m : ℕ) (ms : List ℕ) (r : Pulses) → Grown s l (r .times) → l ≤ 1024 → Apart (s .width) ms → Seams-hold (lines (s .width) m ms r)
 unfolding Seams-hold
-row-holds s l m ms r g i apart a b j k n =
-    by-marks (getD (r .times) a 0) (getD (r .times) b 0) (marked ms a) (marked ms b) (omega (arith, g .grown a j)) (omega (arith, g .grown b k)) (apart a b j k n)
+row-holds s l m ms r g i apart = (
+  limits s (g .pass) .width .0,
+  λ a b j k n.
+      by-marks (getD (r .times) a 0) (getD (r .times) b 0) (marked ms a) (marked ms b) (omega (arith, g .grown a j)) (omega (arith, g .grown b k)) (apart a b j k n),
+)
 
 shown-holds : (s : Settings) (l : ℕ) (ms : List ℕ) (r : Pulses) {xs : List Shown} → Grown s l (r .times) → l ≤ 1024 → Apart (s .width) ms → Every Seams-hold xs →
     Every Seams-hold (row-shown s l ms r ++ xs)

@@ -16,11 +16,11 @@ use Rattle.reach.specs.Search.{reach-in-row}
 use Rattle.reach.specs.declared.Reached.{Reached}
 use Rattle.reach.specs.declared.Reached.the-variants.{Within, Outside, Refused}
 use Rattle.lines.specs.Number.{glyph, decimal-in, decimal}
-use Rattle.lines.specs.Line.{space, line-end}
+use Rattle.lines.specs.Line.{space, line-end, numbers-text, line-text}
 use Rattle.lines.specs.Promises.{all-are}
 use Rattle.lines.proofs.Laws.All.{all-then, all-at}
 use Rattle.lines.proofs.Laws.Number.{glyph-low, one-digit, more-digits}
-use Rattle.search_lines.specs.Text.{b-word, r-word, largest-word, ticks-word, numbers-text, line-text, largest-text, reach-text, reach-texts, gap-text}
+use Rattle.search_lines.specs.Text.{b-word, r-word, largest-word, ticks-word, largest-text, reach-text, reach-texts, gap-text}
 use Rattle.range.specs.Promises.{gaps-text}
 
 -- any glyph but `k`

@@ -26,7 +26,8 @@ use Rattle.stages.specs.declared.Wall.the-variants.{New, Start, Row, End, Over}
 use Rattle.file.proofs.Laws.Part.{marks-part}
 use Rattle.file.proofs.Laws.Steps.{part-enough}
 use Rattle.steps.proofs.Laws.Taken.{settings-away, settings-goes, start-away, start-goes, row-away, row-goes, end-away, end-goes, no-number}
-use Rattle.telling.specs.Telling.{first-marked, says, survey-says, step-says, telling}
+use Rattle.told.specs.Telling.{says}
+use Rattle.telling.specs.Telling.{first-marked, survey-says, step-says, telling}
 use Rattle.range.specs.File.{with-lines, rows-told, start-told, file-told}
 use Rattle.telling.proofs.Laws.Telling.{row-faulty, row-clean, told-away, told-on}
 
@@ -60,7 +61,7 @@ part-told asked Over m ts bs = rw (part-enough Over (pulses ts []) bs)
 abbrev pub goes-on : (asked : List ℕ) → Wall → (m : ℕ) → (row rest : List ℕ) → List ℕ
 goes-on asked x m ts bs =
     let t = telling asked x m ts bs in
-    t .text ++ from asked (t .wall) (t .largest) (step-of x (pulses ts []) bs .row .times) (drop (due-size x) bs)
+    t .text ++ from asked (t .wall) (t .kept) (step-of x (pulses ts []) bs .row .times) (drop (due-size x) bs)
 
 module _ (asked : List ℕ) where
   -- a step that is turned away
@@ -103,7 +104,7 @@ module _ (asked : List ℕ) where
   row-surveyed : (p : Place) (after : Wall) (m : ℕ) (v : Surveyed) (us bs : List ℕ) (rest : ℕ → List ℕ) →
       ((k : ℕ) → from asked after k us bs ≡ rest k) →
       with-lines (p .settings) asked (p .row) v rest
-      ≡ survey-says asked p after m v .text ++ from asked (survey-says asked p after m v .wall) (survey-says asked p after m v .largest) us bs
+      ≡ survey-says asked p after m v .text ++ from asked (survey-says asked p after m v .wall) (survey-says asked p after m v .kept) us bs
   unfolding with-lines survey-says says
   row-surveyed p after m (surveyed.Row b k) us bs rest h = rw (h k)
   row-surveyed p after m surveyed.Outside us bs rest h = refl

@@ -14,11 +14,11 @@ use Rattle.reach.specs.Search.{reach-in-row}
 use Rattle.reach.specs.Survey.{surveyed-of}
 use Rattle.reach.specs.declared.survey.Surveyed.{Surveyed}
 use Rattle.reach.specs.declared.survey.Surveyed.the-variants as surveyed
-use Rattle.lines.specs.Line.{refused-line}
+use Rattle.lines.specs.Line.{refused-line, line-text}
 use Rattle.fields.specs.Field.{body}
 use Rattle.contents.specs.Contents.{settings-size, settings-in, start-size, times-in, row-size, marks-in, call-in}
 use Rattle.steps.specs.Number.{row-number, row-offset}
-use Rattle.search_lines.specs.Text.{faulty-word, line-text, reach-text, reach-texts, gap-text}
+use Rattle.search_lines.specs.Text.{faulty-word, reach-text, reach-texts, gap-text}
 use Rattle.telling.specs.Telling.{first-marked}
 use Rattle.range.specs.File.{with-lines, rows-told, start-told, file-told, search-text}
 

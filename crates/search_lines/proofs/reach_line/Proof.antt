@@ -3,7 +3,8 @@ use mathlib.Core.Path.{sym, _∙_, ap}
 use mathlib.Core.List.{[], _∷_}
 use Prim.Native.Nat.{ℕ}
 use Rattle.columns.proofs.Laws.Wrote.{wrote-none, wrote-as}
-use Rattle.search_lines.specs.Text.{r-word, line-text, reach-text}
+use Rattle.lines.specs.Line.{line-text}
+use Rattle.search_lines.specs.Text.{r-word, reach-text}
 use borrow.Author.Needs.{needs}
 use Rattle.search_lines.proofs.reach_line.Statement.{statement}
 use Rattle.search_lines.proofs.reach_line.Tie as tie

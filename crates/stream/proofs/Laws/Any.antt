@@ -7,7 +7,7 @@ use native.Mathlib.Omega.{arith}
 use lib.ListN.{take, drop}
 use Rattle.settings.proofs.Laws.Cases.{by-equal}
 use Rattle.row.specs.Row.{Pulses, pulses, cut}
-use Rattle.stages.specs.Fit.{due-of, width-of}
+use Rattle.stages.specs.Fit.{due-size, due-of, width-of}
 use Rattle.stages.specs.declared.Wall.{Wall}
 use Rattle.stages.specs.declared.Wall.the-variants.{New, Over}
 use Rattle.file.specs.Stands.{Stands, steps-left}
@@ -51,5 +51,5 @@ module _ {K : Type 0} (step : Kind K) (first : K)
       (steps (b .row) (λ _. refl) (λ more. fits x k lent held s more) t))
 
   pub any-file : Any-file step first
-  unfolding Any-file Stands steps-left
-  any-file file = to-the-end 1027 New first (pulses [] []) file file [] (omega arith) tt (ends (reads file begins))
+  unfolding Any-file Stands steps-left due-of due-size
+  any-file file = to-the-end 1027 New first (pulses [] []) file file [] (omega arith) tt (ends (reads file (omega arith) begins))

@@ -1,6 +1,6 @@
 -- What is held between two steps of a run: the wall's row, and the bytes that are read. Assumes nothing.
-use mathlib.Core.Path.{_≡_, refl, ap}
-use mathlib.Core.Bool.{Bool, true, false}
+use mathlib.Core.Path.{_≡_, refl, sym, ap}
+use mathlib.Core.Bool.{Bool, true, false, true≢false}
 use mathlib.Core.Logic.{_⊎_, inl, inr}
 use mathlib.Core.List.{List, [], _++_, append-nil}
 use Prim.Native.Nat.{ℕ, suc, _-_, _<_}
@@ -84,10 +84,16 @@ held-part k bs cs false e short =
     let enough = ltb-false (length bs) k e in
     (take-append-le k bs cs enough, drop-append-le k bs cs enough)
 
--- where nothing is lacking, the due part is held, or the input has ended
+-- where something is lacking, the due part is not held; where nothing is, it is, or the input has ended
 size-of : (w : Window) (xs : List ℕ) → In-buffer w (length xs) → length (bytes-in w xs) ≡ w .end - w .start
 unfolding bytes-in
 size-of w xs i = simp (length-take, length-drop) (omega (arith, i .ordered, i .inside))
+
+pub lack-held : (w : Window) (due : ℕ) (xs : List ℕ) (b : Bool) → w .ended ≡ b → In-buffer w (length xs) → lacking w due ≡ true →
+    (w .ended ≡ false) × (length (bytes-in w xs) < due)
+unfolding lacking
+lack-held w due xs true f i e = absurd (true≢false (sym (rw f at e)))
+lack-held w due xs false f i e = (f, omega (arith, size-of w xs i, ltb-true (w .end - w .start) due (rw f at e)))
 
 pub enough-held : (w : Window) (due : ℕ) (xs : List ℕ) (b : Bool) → w .ended ≡ b → In-buffer w (length xs) → lacking w due ≡ false →
     length (bytes-in w xs) < due → w .ended ≡ true

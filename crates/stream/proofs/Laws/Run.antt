@@ -11,7 +11,7 @@ use Rattle.stages.specs.declared.Wall.{Wall}
 use Rattle.stages.specs.declared.Wall.the-variants.{Over}
 use Rattle.file.specs.Stands.{Stands, steps-left}
 use Rattle.file.proofs.Laws.Stands.{Ahead}
-use Rattle.window.specs.Window.{bytes-in, lacking}
+use Rattle.window.specs.Window.{In-buffer, bytes-in, lacking}
 use Rattle.stream.specs.Run.{Brought, Kind, brings, begins, reads, ends, steps, Ran}
 use Rattle.stream.specs.State.{Starts, to-hand, Made-ready, stepped, Advanced, Standing, finished, Ends}
 use Rattle.stream.specs.Promises.{Turn-right}
@@ -20,7 +20,7 @@ use Rattle.stream.specs.declared.Ended.{Ended}
 use Rattle.stream.specs.declared.Ended.the-variants.{Done, ReadFailed, WriteFailed}
 use Rattle.stream.specs.declared.Outcome.{Outcome}
 use Rattle.stream.proofs.Laws.State.{starts-between, ready-between, rest-left, left-within, wrote-within}
-use Rattle.stream.proofs.Laws.Held.{enough-held}
+use Rattle.stream.proofs.Laws.Held.{lack-held, enough-held}
 
 module _ {K : Type 0} (step : Kind K) (first : K) where
   pub begun : (s : State) (input : List ℕ) (lent : Pulses) (output : List ℕ) → Starts s → Standing step first s first input lent output
@@ -45,24 +45,31 @@ module _ {K : Type 0} (step : Kind K) (first : K) where
     more : bytes-in (s .window) input ++ drop (s .window .end - s .window .start) (bytes-in (m .window) after) ≡ bytes-in (m .window) after
     more = rw (← made .filled .first) (take-append-drop (s .window .end - s .window .start) (bytes-in (m .window) after))
 
-    read-on : {x : Wall} {k : K} {lent : Pulses} {pending : List ℕ} (a b : Bool) → s .window .ended ≡ a → m .window .ended ≡ b →
-        Ran step first a x k lent (bytes-in (s .window) input) pending → Ran step first b x k lent (bytes-in (m .window) after) pending
-    read-on true b p q r =
-        let idle = made .idle (unfold lacking in rw p) in
-        let same : b ≡ true = sym q ∙ ap (λ (w : _). w .ended) (idle .0) ∙ p in
-        rw (same, idle .0, idle .1) r
-    read-on false false p q r =
+    -- bytes that come behind what is held, and then the input may have ended
+    read-more : {k : K} {lent : Pulses} {pending : List ℕ} (b : Bool) → m .window .ended ≡ b → length (bytes-in (s .window) input) < due-of (s .wall) →
+        Ran step first false (s .wall) k lent (bytes-in (s .window) input) pending → Ran step first b (s .wall) k lent (bytes-in (m .window) after) pending
+    read-more false q short r =
         record {
           delivered = r .delivered ++ drop (s .window .end - s .window .start) (bytes-in (m .window) after);
           handed = r .handed;
-          turns = rw more at (reads (drop (s .window .end - s .window .start) (bytes-in (m .window) after)) (r .turns));
+          turns = rw more at (reads (drop (s .window .end - s .window .start) (bytes-in (m .window) after)) short (r .turns));
         }
-    read-on false true p q r =
+    read-more true q short r =
         record {
           delivered = r .delivered ++ drop (s .window .end - s .window .start) (bytes-in (m .window) after);
           handed = r .handed;
-          turns = ends (rw more at (reads (drop (s .window .end - s .window .start) (bytes-in (m .window) after)) (r .turns)));
+          turns = ends (rw more at (reads (drop (s .window .end - s .window .start) (bytes-in (m .window) after)) short (r .turns)));
         }
+
+    -- they are read only where something is lacking
+    read-on : {k : K} {lent : Pulses} {pending : List ℕ} (t : Bool) → lacking (s .window) (due-of (s .wall)) ≡ t → In-buffer (s .window) (length input) →
+        Ran step first (s .window .ended) (s .wall) k lent (bytes-in (s .window) input) pending →
+        Ran step first (m .window .ended) (s .wall) k lent (bytes-in (m .window) after) pending
+    unfolding bytes-in
+    read-on true e i r =
+        let lack = lack-held (s .window) (due-of (s .wall)) input (s .window .ended) refl i e in
+        read-more (m .window .ended) refl (lack .1) (rw (lack .0) at r)
+    read-on false e i r = let idle = made .idle e in rw (idle .0, idle .1) r
 
   pub made-standing : (s m : State) (k : K) (input : List ℕ) (lent : Pulses) (output after : List ℕ) → Standing step first s k input lent output →
       Made-ready s input (length output) m after → Standing step first m k after lent output
@@ -72,7 +79,7 @@ module _ {K : Type 0} (step : Kind K) (first : K) where
         ran =
             rw (made .wall)
             (handed-on output (s .text) (m .text) (to-hand s (length output)) (made .text)
-            (read-on s m input after (length output) made (s .window .ended) (m .window .ended) refl refl (i .ran)));
+            (read-on s m input after (length output) made (lacking (s .window) (due-of (s .wall))) refl (i .between .within) (i .ran)));
       }
 
   -- a step: it leads on, and fewer steps are left

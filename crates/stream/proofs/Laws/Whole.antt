@@ -26,7 +26,7 @@ module _ {K : Type 0} (step : Kind K) (first : K) (from : Wall → K → (row : 
   reached-stands : {ended : Bool} {x : Wall} {k : K} {lent : Pulses} {held delivered text : List ℕ} → Turns step first ended x k lent held delivered text → Stands x
   unfolding Stands
   reached-stands begins = tt
-  reached-stands (reads piece r) = reached-stands r
+  reached-stands (reads piece short r) = reached-stands r
   reached-stands (ends r) = reached-stands r
   reached-stands (steps {x = x} {k} after short row r) = stands x k _ _ (reached-stands r)
 
@@ -34,7 +34,7 @@ module _ {K : Type 0} (step : Kind K) (first : K) (from : Wall → K → (row : 
       (rest : List ℕ) → (ended ≡ true → rest ≡ []) → from New first (pulses [] []) (delivered ++ rest) ≡ text ++ from x k (cut (width-of x) lent) (held ++ rest)
   unfolding width-of
   told begins rest none = refl
-  told (reads {x} {k} {lent} {held} {delivered} {text} piece r) rest none =
+  told (reads {x} {k} {lent} {held} {delivered} {text} piece short r) rest none =
       ap (from New first (pulses [] [])) (append-assoc delivered piece rest)
       ∙ told r (piece ++ rest) (λ e. absurd (true≢false (sym e)))
       ∙ ap (λ (l : List ℕ). text ++ from x k (cut (width-of x) lent) l) (sym (append-assoc held piece rest))
@@ -50,16 +50,13 @@ module _ {K : Type 0} (step : Kind K) (first : K) (from : Wall → K → (row : 
 
   pub whole-right : ((k : K) (row : Pulses) (rest : List ℕ) → from Over k row rest ≡ []) → Run-right step first (from New first (pulses [] []))
   unfolding Run-right
-  whole-right over r k lent output e =
+  whole-right over r k lent output e rest none =
       let h = e .ran .handed in
-      let d = e .ran .delivered in
-      let s = r .state in (
+      let s = r .state in
+      let all = told (e .ran .turns) rest none in (
         λ done.
             let at = e .done done in
-            let all = told (e .ran .turns) [] (λ _. refl) in
             let clear : take (s .text) output ≡ [] = rw (at .1) refl in
-            sym (rw (clear, at .0, over, append-nil, append-nil, append-nil) at all),
-        λ rest none.
-            let all = told (e .ran .turns) rest none in
-            rw (all, append-assoc) (take-at h _ (length h) refl),
+            sym (rw (clear, at .0, over, append-nil, append-nil) at all),
+        rw (all, append-assoc) (take-at h _ (length h) refl),
       )

@@ -1,35 +1,23 @@
 -- What is told, by its cases. Assumes nothing.
-use mathlib.Core.Path.{_≡_, refl, sym, _∙_, ap, subst}
-use mathlib.Core.Logic.{_⊎_, inl, inr, ⊎-elim}
+use mathlib.Core.Path.{_≡_, refl, _∙_, ap}
+use mathlib.Core.Logic.{_⊎_, inl, inr}
 use mathlib.Core.List.{List, [], _∷_}
 use Prim.Native.Nat.{ℕ, _≤_, _<_}
-use native.Mathlib.Omega.{arith}
 use borrow.Author.Tests.{eq-eqb, ne-eqb, lt-ltb, le-ltb}
 use Rattle.settings.proofs.Laws.Cases.{by-order, by-equal}
 use Rattle.reach.specs.Survey.{surveyed-of}
 use Rattle.reach.specs.declared.survey.Surveyed.{Surveyed}
 use Rattle.reach.specs.declared.survey.Surveyed.the-variants as surveyed
-use Rattle.lines.specs.Line.{refused-line}
-use Rattle.columns.specs.Wrote.{Wrote}
+use Rattle.lines.specs.Line.{refused-line, line-text}
 use Rattle.row.specs.Row.{pulses}
 use Rattle.steps.specs.Shown.{number-shown, offset-shown}
-use Rattle.stages.specs.Fit.{due-of}
-use Rattle.file.specs.Stands.{Stands, steps-left}
 use Rattle.steps.specs.Step.{step-of}
 use Rattle.stages.specs.declared.Place.{Place}
 use Rattle.stages.specs.declared.Wall.{Wall}
 use Rattle.stages.specs.declared.Wall.the-variants.{New, Start, Row, End, Over}
-use Rattle.file.proofs.Laws.Stands.{Ahead, step-ahead, step-stands}
-use Rattle.search_lines.specs.Text.{faulty-word, line-text}
-use Rattle.telling.specs.Telling.{first-marked, Telling, says, survey-says, row-says, step-says, telling}
-use Rattle.telling.specs.Said.{Said}
-
--- what was told, of a text that was written
-module _ {before after : List ℕ} {at end : ℕ} where
-  pub said : {t : Telling} (x : Wall) (m : ℕ) {text : List ℕ} → t ≡ says x m text → Wrote before at text after end →
-      Said t (record { wall = x; largest = m; end = end }) before at after
-  unfolding says
-  said x m e w = rw e (record { wall = refl; largest = refl; text = w })
+use Rattle.search_lines.specs.Text.{faulty-word}
+use Rattle.told.specs.Telling.{Telling, says}
+use Rattle.telling.specs.Telling.{first-marked, survey-says, row-says, step-says, telling}
 
 -- a row, by its lowest marked column
 module _ (asked : List ℕ) (p : Place) (after : Wall) (m : ℕ) (ms ts : List ℕ) where
@@ -87,18 +75,3 @@ module _ (asked : List ℕ) where
       by-equal (number-shown (step-of x (pulses ts []) bs .shows)) 0
       (λ e. rw (told-on asked x m ts bs e) (step-wall x (step-of x (pulses ts []) bs .next) m ts bs))
       (λ k. inl (ap (λ (t : Telling). t .wall) (told-away asked x m ts bs k) ∙ (unfold says in refl)))
-
-  -- so it stands, and a step that was due leaves fewer to come
-  pub told-ahead : (x : Wall) (m : ℕ) (ts bs : List ℕ) → Stands x → (due-of x ≡ 0 → ⊥) → Ahead (telling asked x m ts bs .wall) (steps-left x)
-  unfolding Stands steps-left
-  told-ahead x m ts bs i k =
-      let ahead = step-ahead x (pulses ts []) bs i k in
-      ⊎-elim
-      (λ e. subst (λ (y : Wall). Ahead y (steps-left x)) (sym e) ahead)
-      (λ e. subst (λ (y : Wall). Ahead y (steps-left x)) (sym e) (record { stands = tt; less = omega (arith, ahead .less) }))
-      (told-wall x m ts bs)
-
-  pub told-stands : (x : Wall) (m : ℕ) (ts bs : List ℕ) → Stands x → Stands (telling asked x m ts bs .wall)
-  unfolding Stands
-  told-stands x m ts bs i =
-      ⊎-elim (λ e. subst Stands (sym e) (step-stands x (pulses ts []) bs i)) (λ e. subst Stands (sym e) tt) (told-wall x m ts bs)

@@ -8,8 +8,9 @@ use Rattle.reach.specs.declared.survey.Surveyed.{Surveyed}
 use Rattle.columns.proofs.Laws.Wrote.{wrote-none}
 use Rattle.stages.specs.declared.Wall.the-variants.{Over}
 use Rattle.stages.proofs.Laws.{Fit, fit-of}
+use Rattle.told.proofs.Laws.{said}
 use Rattle.telling.specs.Telling.{first-marked, survey-says, row-says}
-use Rattle.telling.proofs.Laws.Telling.{said, row-faulty, row-clean}
+use Rattle.telling.proofs.Laws.Telling.{row-faulty, row-clean}
 use borrow.Author.Needs.{needs}
 use Rattle.telling.proofs.row_told.Statement.{statement}
 use Rattle.telling.proofs.row_told.Tie as tie

@@ -20,9 +20,10 @@ use Rattle.steps.specs.declared.Taken.{Taken}
 use Rattle.stages.specs.declared.Wall.{Wall}
 use Rattle.stages.proofs.Laws.{fit-of}
 use Rattle.show.proofs.Laws.{row-there}
-use Rattle.telling.specs.Telling.{Telling, says, row-says, step-says, telling}
-use Rattle.telling.specs.Said.{Said}
-use Rattle.telling.proofs.Laws.Telling.{said, told-away, told-on}
+use Rattle.told.specs.Telling.{Telling, says, Said}
+use Rattle.told.proofs.Laws.{said}
+use Rattle.telling.specs.Telling.{row-says, step-says, telling}
+use Rattle.telling.proofs.Laws.Telling.{told-away, told-on}
 use borrow.Author.Needs.{needs}
 use Rattle.telling.proofs.tell.Statement.{statement}
 use Rattle.telling.proofs.tell.Tie as tie

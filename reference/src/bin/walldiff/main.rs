@@ -1,13 +1,16 @@
 //! `walldiff PROGRAM COUNT FIRST_SEED` runs PROGRAM on the wall files of COUNT seeds and compares
 //! every byte of its standard output, how it ended and whether it complained with the reference. Some
 //! of the walls are handed over as a named file, some calls have a bad word. It stops at the first
-//! difference. `walldiff --reach PROGRAM COUNT FIRST_SEED` does so for `wallreach`.
+//! difference. `walldiff --reach PROGRAM COUNT FIRST_SEED` does so for `wallreach`, and with `--wide` for `wallwide`, which is
+//! called several times on a wall.
 
 mod counts;
 mod reach;
 mod report;
 mod run;
+mod seams;
 mod wall;
+mod wide;
 
 use std::io;
 use std::process::ExitCode;
@@ -21,7 +24,7 @@ const MANY: u64 = 10_000;
 
 /// Whether a file that is named can be read; where none is, there is standard input.
 fn there_is(name: Option<&str>) -> bool {
-    name.map_or(true, |name| std::path::Path::new(name).is_file())
+    name.is_none_or(|name| std::path::Path::new(name).is_file())
 }
 
 /// Where the wall file of a difference is saved.
@@ -29,8 +32,8 @@ const SAVED: &str = "differs.wall";
 
 /// A program of the reference that another is held against. It counts what is compared.
 trait Reference {
-    /// The words that go with the wall file of a seed, its name aside.
-    fn words(&self, seed: u64) -> Vec<String>;
+    /// The calls that are made on the wall file of a seed, by their words, its name aside.
+    fn calls(&mut self, seed: u64, file: &[u8]) -> Vec<Vec<String>>;
 
     /// What a program should do for these words, which end with the file's name where it has one; counted.
     fn due(&mut self, words: &[String], file: &[u8]) -> io::Result<Ended>;
@@ -49,13 +52,16 @@ fn main() -> ExitCode {
         ["--reach", program, count, first] => {
             held_against(reach::Wallreach::default(), program, count, first)
         }
+        ["--wide", program, count, first] => {
+            held_against(wide::Wallwide::default(), program, count, first)
+        }
         [program, count, first] => held_against(wall::Wallrun::default(), program, count, first),
         _ => usage(),
     }
 }
 
 fn usage() -> ExitCode {
-    eprintln!("usage: walldiff [--reach] PROGRAM COUNT FIRST_SEED");
+    eprintln!("usage: walldiff [--reach | --wide] PROGRAM COUNT FIRST_SEED");
     ExitCode::from(2)
 }
 
@@ -106,18 +112,18 @@ fn compare_all(
     let named = Named::new();
     for seed in (0..count).map(|i| first.wrapping_add(i)) {
         let file = generate::file(seed);
-        let mut words = reference.words(seed);
         let by_name = Rng::new(seed).chance(25);
-        if by_name {
-            words.push(named.holding(&file)?);
-        }
-        let due = reference.due(&words, &file)?;
-        let given = run(program, &words, if by_name { &[] } else { &file })?;
-        if given != due {
-            report::difference(seed, &words, &due, &given);
-            std::fs::write(SAVED, &file)?;
-            println!("the wall file is saved as {SAVED}");
-            return Ok(false);
+        let name = by_name.then(|| named.holding(&file)).transpose()?;
+        for mut words in reference.calls(seed, &file) {
+            words.extend(name.clone());
+            let due = reference.due(&words, &file)?;
+            let given = run(program, &words, if by_name { &[] } else { &file })?;
+            if given != due {
+                report::difference(seed, &words, &due, &given);
+                std::fs::write(SAVED, &file)?;
+                println!("the wall file is saved as {SAVED}");
+                return Ok(false);
+            }
         }
     }
     reference.print();

@@ -34,9 +34,9 @@ const BAD: [&str; 8] = [
 ];
 
 impl Reference for Wallreach {
-    /// A few rows, most often small ones; now and then as many as may be asked for, one more, or a bad one
-    /// among them.
-    fn words(&self, seed: u64) -> Vec<String> {
+    /// One call for a few rows, most often small ones; now and then as many as may be asked for, one more, or a bad
+    /// one among them.
+    fn calls(&mut self, seed: u64, _: &[u8]) -> Vec<Vec<String>> {
         let mut rng = Rng::new(!seed);
         let count = rng.pick(&[0, 1, 2, 3, 3, 4, 5, MOST_ASKED]);
         let most = rng.pick(&[6, 6, 40, 1_024]);
@@ -52,11 +52,11 @@ impl Reference for Wallreach {
             2..=4 => words.push("1024".into()),
             _ => {}
         }
-        words
+        vec![words]
     }
 
     fn due(&mut self, words: &[String], file: &[u8]) -> io::Result<Ended> {
-        let asked = match read(words, MOST_ASKED, ROWS) {
+        let asked = match read(words, 0..=MOST_ASKED, ROWS) {
             Call::Run { numbers, name } if there_is(name.as_deref()) => numbers,
             _ => {
                 self.bad_arguments += 1;

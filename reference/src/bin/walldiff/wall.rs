@@ -50,17 +50,17 @@ const PHASES: [Part; 3] = [
 const BAD: [&str; 6] = ["", "0", "12", "-x", "--helpx", "no-such.wall"];
 
 impl Reference for Wallrun {
-    /// None, but now and then a bad one.
-    fn words(&self, seed: u64) -> Vec<String> {
+    /// One call without words, but now and then with a bad one.
+    fn calls(&mut self, seed: u64, _: &[u8]) -> Vec<Vec<String>> {
         let mut rng = Rng::new(!seed);
-        match rng.below(50) {
+        vec![match rng.below(50) {
             0 => vec![rng.pick(&BAD).to_string()],
             _ => Vec::new(),
-        }
+        }]
     }
 
     fn due(&mut self, words: &[String], file: &[u8]) -> io::Result<Ended> {
-        match read(words, 0, 0..=0) {
+        match read(words, 0..=0, 0..=0) {
             Call::Run { name, .. } if there_is(name.as_deref()) => {}
             _ => {
                 self.bad_arguments += 1;

@@ -1,2 +1,0 @@
--- The laws of the definitions, each file over one of them.
-pub mod Search
