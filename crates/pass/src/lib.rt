@@ -1,31 +1,25 @@
 // One pass over a wall file, from one file descriptor to another: the part of the file that is due is read, its
 // step is taken, and what it tells is handed over, whatever is asked.
-use questions::Asked;
+use asked::Asked;
 use questions::Question;
-use questions::step;
 use stream::Outcome;
 use stream::State;
 use stream::Turn;
 use stream::finish;
 use stream::ready;
+use turn::advance;
 ghost use mathlib.Core.List.{[]};
-ghost use Prim.Native.Nat.{_+_, _≤_};
+ghost use Prim.Native.Nat.{_≤_};
 ghost use lib.ListN.{length, take};
 ghost use Rattle.lines.specs.Row.{step-room};
 ghost use Rattle.row.specs.Row.{pulses};
-ghost use Rattle.stream.specs.State.{Between, Advanced, Ends, Comes-to};
-ghost use Rattle.questions.specs.Questions.{has-tables, step-for};
+ghost use Rattle.stream.specs.State.{Ends, Comes-to};
+ghost use Rattle.asked.specs.Asked.{has-tables, step-for};
 
 // How a pass ended, and the number that is kept from step to step: in a search the largest reach of the rows so far.
 pub struct Passed {
     pub outcome: Outcome,
     pub kept: u64,
-}
-
-// A pass between two steps.
-struct Going {
-    state: State,
-    kept: u64,
 }
 
 // The lines of a wall file: `wall-text`.
@@ -133,50 +127,5 @@ fn run_in(
                 };
             }
         }
-    }
-}
-
-// Takes the step of the due part, or of what is left where the input has ended.
-fn advance(
-    asked: Asked,
-    rows: &[u64],
-    tables: &[u64],
-    links: &mut [u64],
-    state: State,
-    kept: u64,
-    input: &[u8],
-    row: &mut [u64],
-    letters: &mut [u8],
-    next: &mut [u64],
-    next_letters: &mut [u8],
-    output: &mut [u8],
-) -> Going
-    requires { ⌜ has-tables asked (now tables) × (770 ≤ length (now links)) × Between state (length (now input)) (length (now output)) × (256 ≤ length (now row)) × (256 ≤ length (now letters)) × (256 ≤ length (now next)) × (256 ≤ length (now «next_letters»)) × (state .text + step-room ≤ length (now output)) ⌝ }
-    ensures { λ r. ⌜ Advanced (step-for asked (take 16 (now (rows .entry)))) state kept (now (input .entry)) (pulses (now (row .entry)) (now (letters .entry))) (now (output .entry)) (r .state) (r .kept) (pulses (now (row .exit)) (now (letters .exit))) (now (output .exit)) ⌝ }
-{
-    let wall = state.wall;
-    let window = state.window;
-    let start = window.start;
-    let stop = state.part_end();
-    let width = wall.width();
-    let told = step(
-        asked,
-        rows,
-        tables,
-        links,
-        wall,
-        kept,
-        &input[start..stop],
-        &mut row[..width],
-        &mut letters[..width],
-        &mut next[..width],
-        &mut next_letters[..width],
-        output,
-        state.text,
-    );
-    let after = told.wall;
-    Going {
-        state: state.stepped(stop, after, told.end),
-        kept: told.kept,
     }
 }

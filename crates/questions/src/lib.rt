@@ -1,5 +1,4 @@
-// What is asked of a wall file, and a step that tells its part of the answer. The lines of the rows are one thing to ask for; the
-// search range and the first wide seam are questions whose steps make no text of a row.
+// What is asked of a wall file beside its lines, and the step that tells its part of the answer, which makes no text of a row.
 use stages::Wall;
 use steps::rows::copy;
 use told::Told;
@@ -15,7 +14,7 @@ ghost use Rattle.stages.specs.Fit.{width-of, wall-fits};
 ghost use Rattle.steps.specs.Step.{step-of};
 ghost use Rattle.steps.specs.Take.{taken-of};
 ghost use Rattle.told.specs.Telling.{Said};
-ghost use Rattle.questions.specs.Questions.{has-tables, lines-told, telling-for, told-of, Tells};
+ghost use Rattle.questions.specs.Questions.{telling-for, Tells};
 
 pub enum Question {
     // How far one broken tile of each row can reach, and in the later rows asked for.
@@ -24,109 +23,8 @@ pub enum Question {
     Wide(u64),
 }
 
-pub enum Asked {
-    // The lines of every row.
-    Lines,
-    Answer(Question),
-}
-
 // Takes the part that is due and tells what that brought; the next row takes the place of the last. All rows are of the wall's width.
-pub fn step(
-    asked: Asked,
-    rows: &[u64],
-    tables: &[u64],
-    links: &mut [u64],
-    wall: Wall,
-    kept: u64,
-    part: &[u8],
-    row: &mut [u64],
-    letters: &mut [u8],
-    next: &mut [u64],
-    next_letters: &mut [u8],
-    out: &mut [u8],
-    at: usize,
-) -> Told
-    requires { ⌜ has-tables asked (now tables) × (770 ≤ length (now links)) × Stands wall × (at + step-room ≤ length (now out)) ⌝ }
-    requires { ⌜ (length (now row) ≡ width-of wall) × (length (now letters) ≡ width-of wall) × (length (now next) ≡ width-of wall) × (length (now «next_letters») ≡ width-of wall) × (length (now row) ≤ 256) ⌝ }
-    ensures { λ r. ⌜ Tells (told-of asked (take 16 (now (rows .entry)))) wall kept (now (part .entry)) (pulses (now (row .entry)) (now (letters .entry))) (now (out .entry)) at r (pulses (now (row .exit)) (now (letters .exit))) (now (out .exit)) ⌝ }
-{
-    match asked {
-        Asked::Lines => lines_step(
-            tables,
-            links,
-            wall,
-            kept,
-            part,
-            row,
-            letters,
-            next,
-            next_letters,
-            out,
-            at,
-        ),
-        Asked::Answer(question) => {
-            answer_step(
-                question,
-                rows,
-                links,
-                wall,
-                kept,
-                part,
-                row,
-                letters,
-                next,
-                out,
-                at,
-            )
-        }
-    }
-}
-
-// The step with the lines of the row that is then shown.
-fn lines_step(
-    tables: &[u64],
-    links: &mut [u64],
-    wall: Wall,
-    kept: u64,
-    part: &[u8],
-    row: &mut [u64],
-    letters: &mut [u8],
-    next: &mut [u64],
-    next_letters: &mut [u8],
-    out: &mut [u8],
-    at: usize,
-) -> Told
-    requires { ⌜ has-tables Asked.Lines (now tables) × (770 ≤ length (now links)) × Stands wall × (at + step-room ≤ length (now out)) ⌝ }
-    requires { ⌜ (length (now row) ≡ width-of wall) × (length (now letters) ≡ width-of wall) × (length (now next) ≡ width-of wall) × (length (now «next_letters») ≡ width-of wall) ⌝ }
-    ensures { λ r. ⌜ Tells lines-told wall kept (now (part .entry)) (pulses (now (row .entry)) (now (letters .entry))) (now (out .entry)) at r (pulses (now (row .exit)) (now (letters .exit))) (now (out .exit)) ⌝ }
-{
-    match wall::step_in(
-        wall,
-        tables,
-        links,
-        part,
-        next,
-        next_letters,
-        row,
-        letters,
-        out,
-        at,
-    ) {
-        wall::Answer::Went(went) => {
-            let after = went.wall;
-            Told {
-                wall: after,
-                kept,
-                end: went.end,
-            }
-        }
-        // Rows of the wall's width always fit.
-        wall::Answer::Unfit => unfit(),
-    }
-}
-
-// The step without text of a row.
-fn answer_step(
+pub fn answer_step(
     question: Question,
     rows: &[u64],
     links: &mut [u64],
@@ -154,7 +52,7 @@ fn answer_step(
 }
 
 // No step comes here.
-fn unfit() -> Told {
+pub fn unfit() -> Told {
     Told {
         wall: Wall::Over,
         kept: 0,

@@ -1,6 +1,6 @@
 -- `lines` meets its contract. Assumes nothing.
 use borrow.Author.Needs.{needs}
-use Rattle.questions.specs.Questions.{has-tables}
+use Rattle.asked.specs.Asked.{has-tables}
 use Rattle.pass.proofs.lines.Statement.{statement}
 use Rattle.pass.proofs.lines.Tie as tie
 

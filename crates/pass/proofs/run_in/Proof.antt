@@ -12,8 +12,8 @@ use Rattle.file.proofs.Laws.Stands.{none-due}
 use Rattle.stream.specs.State.{Made-ready, Standing}
 use Rattle.stream.proofs.Laws.State.{ready-on, ready-off, ready-between}
 use Rattle.stream.proofs.Laws.Run as run
-use Rattle.questions.specs.Questions.{step-for}
-use Rattle.questions.proofs.Laws.Onward.{ahead}
+use Rattle.asked.specs.Asked.{step-for}
+use Rattle.whole.proofs.Laws.Onward.{ahead}
 use Rattle.pass.proofs.run_in.Statement.{statement}
 use Rattle.pass.proofs.run_in.Tie as tie
 

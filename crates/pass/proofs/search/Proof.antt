@@ -1,6 +1,6 @@
 -- `search` meets its contract. Assumes nothing.
 use borrow.Author.Needs.{needs}
-use Rattle.questions.specs.Questions.{has-tables}
+use Rattle.asked.specs.Asked.{has-tables}
 use Rattle.pass.proofs.search.Statement.{statement}
 use Rattle.pass.proofs.search.Tie as tie
 

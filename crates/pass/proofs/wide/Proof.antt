@@ -1,6 +1,6 @@
 -- `wide` meets its contract. Assumes nothing.
 use borrow.Author.Needs.{needs}
-use Rattle.questions.specs.Questions.{has-tables}
+use Rattle.asked.specs.Asked.{has-tables}
 use Rattle.pass.proofs.wide.Statement.{statement}
 use Rattle.pass.proofs.wide.Tie as tie
 

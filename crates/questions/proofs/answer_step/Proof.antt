@@ -7,7 +7,7 @@ use Rattle.steps.specs.Take.{taken-of, step-from}
 use Rattle.steps.proofs.Laws.Answer.{taken-same}
 use Rattle.steps.proofs.Laws.Fit.{fit-all}
 use Rattle.steps.proofs.Laws.Taken.{Taken-step, taken-step}
-use Rattle.questions.proofs.Laws.Step.{never-unfit, answer-told}
+use Rattle.questions.proofs.Laws.{never-unfit, answer-told}
 use borrow.Author.Needs.{needs}
 use Rattle.questions.proofs.answer_step.Statement.{statement}
 use Rattle.questions.proofs.answer_step.Tie as tie

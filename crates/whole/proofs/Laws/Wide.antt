@@ -29,10 +29,10 @@ use Rattle.found.specs.Found.{Found, refused, found, answer-text}
 use Rattle.found.proofs.Laws.First.{or-else, found-append}
 use Rattle.finding.specs.Finding.{found-then, finding}
 use Rattle.finding.proofs.Laws.{told-away, told-on}
 use Rattle.questions.specs.Questions.{telling-for}
 use Rattle.questions.specs.declared.Question.the-variants.{Wide}
-use Rattle.questions.proofs.Laws.Onward.{Tale}
-use Rattle.questions.proofs.Laws.Lines.{from, goes-on}
+use Rattle.whole.proofs.Laws.Onward.{Tale}
+use Rattle.whole.proofs.Laws.Lines.{from, goes-on}
 
 module _ (n : ℕ) where
   -- the letters of a row that is shown are not looked at

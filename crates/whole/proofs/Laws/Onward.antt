@@ -18,9 +18,10 @@ use Rattle.file.proofs.Laws.Width.{row-fits}
 use Rattle.told.specs.Telling.{Telling}
 use Rattle.stream.specs.Run.{Kind, brings}
 use Rattle.stream.proofs.Laws.Held.{row-kept}
-use Rattle.questions.specs.Questions.{Step, told-of, step-for}
-use Rattle.questions.specs.declared.Asked.{Asked}
-use Rattle.questions.proofs.Laws.Step.{Onward, onward}
+use Rattle.questions.specs.Questions.{Step}
+use Rattle.asked.specs.Asked.{told-of, step-for}
+use Rattle.asked.specs.declared.Asked.{Asked}
+use Rattle.asked.proofs.Laws.{onward}
 
 -- a step of these tells a part of what is told from its wall on, and leaves the rest; row 0 and the end do not read the row that is lent
 pub record Tale (t : Step Telling) : Type 0 where

@@ -11,8 +11,9 @@ use Rattle.told.specs.declared.Told.{Told}
 use Rattle.stream.specs.State.{stepped, Advanced}
 use Rattle.stream.specs.declared.State.{State}
 use Rattle.stream.proofs.Laws.State.{part-taken}
-use Rattle.questions.specs.Questions.{told-of, step-for, Tells}
-use Rattle.questions.specs.declared.Asked.{Asked}
+use Rattle.questions.specs.Questions.{Tells}
+use Rattle.asked.specs.Asked.{told-of, step-for}
+use Rattle.asked.specs.declared.Asked.{Asked}
 
 -- `stop` is where the due part ends, and the rows of the wall's width stand in longer buffers
 module _ (a : Asked) (rows : List ℕ) (s : State) (m : ℕ) (input : List ℕ) (lent : Pulses) (output : List ℕ) (within : In-buffer (s .window) (length input)) (stop width : ℕ)

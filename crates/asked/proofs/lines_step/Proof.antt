@@ -1,10 +1,10 @@
 -- `lines_step` meets its contract. Assumes nothing.
 use Rattle.row.specs.Row.{pulses}
-use Rattle.questions.specs.Questions.{has-tables}
-use Rattle.questions.proofs.Laws.Step.{lines-fit, lines-said}
+use Rattle.asked.specs.Asked.{has-tables}
+use Rattle.asked.proofs.Laws.{lines-fit, lines-said}
 use borrow.Author.Needs.{needs}
-use Rattle.questions.proofs.lines_step.Statement.{statement}
-use Rattle.questions.proofs.lines_step.Tie as tie
+use Rattle.asked.proofs.lines_step.Statement.{statement}
+use Rattle.asked.proofs.lines_step.Tie as tie
 
 -- the wall's step, and the start of the function
 abbrev stepped : tie.After-slice-known12 → tie.After-step-in

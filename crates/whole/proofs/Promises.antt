@@ -11,15 +11,16 @@ use Rattle.stream.specs.Promises.{Run-right}
 use Rattle.stream.proofs.Laws.Run as run
 use Rattle.stream.proofs.Laws.Any.{any-file}
 use Rattle.stream.proofs.Laws.Whole.{whole-right as told-whole}
-use Rattle.questions.specs.Questions.{told-of, step-for, whole-text}
-use Rattle.questions.specs.Promises.{Turns-right, Whole-right, Any-right}
+use Rattle.asked.specs.Asked.{told-of, step-for}
+use Rattle.whole.specs.Whole.{whole-text}
+use Rattle.whole.specs.Promises.{Turns-right, Whole-right, Any-right}
 use Rattle.questions.specs.declared.Question.the-variants.{Range, Wide}
-use Rattle.questions.specs.declared.Asked.{Asked}
-use Rattle.questions.specs.declared.Asked.the-variants.{Lines, Answer}
-use Rattle.questions.proofs.Laws.Onward.{Tale, ahead, stands, fits, one}
-use Rattle.questions.proofs.Laws.Lines.{lines-tale}
-use Rattle.questions.proofs.Laws.Range.{range-tale}
-use Rattle.questions.proofs.Laws.Wide.{wide-tale}
+use Rattle.asked.specs.declared.Asked.{Asked}
+use Rattle.asked.specs.declared.Asked.the-variants.{Lines, Answer}
+use Rattle.whole.proofs.Laws.Onward.{Tale, ahead, stands, fits, one}
+use Rattle.whole.proofs.Laws.Lines.{lines-tale}
+use Rattle.whole.proofs.Laws.Range.{range-tale}
+use Rattle.whole.proofs.Laws.Wide.{wide-tale}
 
 pub turns-right : Turns-right
 unfolding Turns-right

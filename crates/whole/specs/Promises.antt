@@ -3,8 +3,9 @@
 use mathlib.Core.List.{List}
 use Prim.Native.Nat.{ℕ}
 use Rattle.stream.specs.Promises.{Turn-right, Run-right, Any-file}
-use Rattle.questions.specs.Questions.{step-for, whole-text}
-use Rattle.questions.specs.declared.Asked.{Asked}
+use Rattle.asked.specs.Asked.{step-for}
+use Rattle.asked.specs.declared.Asked.{Asked}
+use Rattle.whole.specs.Whole.{whole-text}
 
 -- §16.4 what `ready` and `advance` ensure is one turn more
 unfoldable pub Turns-right : Type 0

@@ -20,8 +20,8 @@ use Rattle.file.specs.Stands.{Stands}
 use Rattle.file.proofs.Laws.Calls.{texts-append}
 use Rattle.file.proofs.Laws.Steps.{part-enough, any-letters}
 use Rattle.told.specs.Telling.{says}
-use Rattle.questions.specs.Questions.{lines-told}
-use Rattle.questions.proofs.Laws.Onward.{Tale}
+use Rattle.asked.specs.Asked.{lines-told}
+use Rattle.whole.proofs.Laws.Onward.{Tale}
 
 -- what is shown from a wall on; row 0 and the settings don't read the row that is lent
 abbrev pub from : Wall → (row : Pulses) → (rest : List ℕ) → List Shown

@@ -4,10 +4,10 @@ use native.Mathlib.Omega.{arith}
 use lib.ListN.{length, take}
 use lib.Seq.{length-take-le}
 use Rattle.row.specs.Row.{pulses}
-use Rattle.pass.proofs.Laws.{advanced}
+use Rattle.turn.proofs.Laws.{advanced}
 use borrow.Author.Needs.{needs}
-use Rattle.pass.proofs.advance.Statement.{statement}
-use Rattle.pass.proofs.advance.Tie as tie
+use Rattle.turn.proofs.advance.Statement.{statement}
+use Rattle.turn.proofs.advance.Tie as tie
 
 -- the start of the function, from where the width is known, and the rows of that width
 abbrev start : tie.After-width → tie.Start

@@ -1,9 +1,9 @@
 -- `step` meets its contract. Assumes nothing.
-use Rattle.questions.specs.Questions.{told-of}
-use Rattle.questions.proofs.Laws.Step.{tables-of}
+use Rattle.asked.specs.Asked.{told-of}
+use Rattle.asked.proofs.Laws.{tables-of}
 use borrow.Author.Needs.{needs}
-use Rattle.questions.proofs.step.Statement.{statement}
-use Rattle.questions.proofs.step.Tie as tie
+use Rattle.asked.proofs.step.Statement.{statement}
+use Rattle.asked.proofs.step.Tie as tie
 
 -- the start of the function
 abbrev start : tie.After-slice-known6 → tie.Start

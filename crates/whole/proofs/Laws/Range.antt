@@ -6,9 +6,9 @@ use Rattle.stages.specs.Fit.{due-size}
 use Rattle.steps.proofs.Laws.Answer.{times-same}
 use Rattle.telling.specs.Telling.{telling}
 use Rattle.range.proofs.Laws.File.{from, part-told, one-step}
 use Rattle.questions.specs.Questions.{telling-for}
 use Rattle.questions.specs.declared.Question.the-variants.{Range}
-use Rattle.questions.proofs.Laws.Onward.{Tale}
+use Rattle.whole.proofs.Laws.Onward.{Tale}
 use Prim.Native.Nat.{ℕ}
 
 unfoldable pub range-tale : (rows : List ℕ) → Tale (telling-for Range rows)
