@@ -51,8 +51,10 @@ pub fn answer_step(
     }
 }
 
-// No step comes here.
-pub fn unfit() -> Told {
+// No step comes here: rows of the wall's width always fit.
+pub fn unfit() -> Told
+    ensures { λ r. ⌜ r ≡ record { wall = Wall.Over; kept = 0; end = 0 } ⌝ }
+{
     Told {
         wall: Wall::Over,
         kept: 0,
