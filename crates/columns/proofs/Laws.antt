@@ -3,3 +3,4 @@ pub mod Columns
 pub mod Lists
 pub mod Wrote
 pub mod Window
+pub mod Plain

@@ -2,7 +2,7 @@
 use mathlib.Core.Bool.{false}
 use mathlib.Core.List.{List}
 use mathlib.Core.Path.{_≡_}
-use Prim.Native.Nat.{ℕ, _/_, _%_, _+_, _-_, _≤_, _<_}
+use Prim.Native.Nat.{ℕ, _/_, _%_, _+_, _≤_, _<_}
 use lib.ListN.{getD}
 use Rattle.columns.specs.Marks.{marked}
 
@@ -12,9 +12,8 @@ pub record Quiet (w : ℕ) (marks : List ℕ) (c : ℕ) : Type 0 where
   pub inside : c + 11 ≤ w
   pub none : getD marks (c / 8) 0 ≡ 0
 
--- §7.6 eight tiles away from the ends, their predecessors correct
-pub record Plain (w : ℕ) (marks : List ℕ) (c : ℕ) : Type 0 where
-  pub later : 0 < c
-  pub quiet : Quiet w marks c
-  pub left : marked marks (c - 1) ≡ false
-  pub right : marked marks (c + 8) ≡ false
+-- §7.6 n tiles from column c on, away from the ends, their predecessors correct
+pub record Plain (w : ℕ) (marks : List ℕ) (c n : ℕ) : Type 0 where
+  pub past : 3 ≤ c
+  pub short : c + n + 2 < w
+  pub correct : (k : ℕ) → c ≤ k + 1 → k ≤ c + n → marked marks k ≡ false

@@ -60,7 +60,7 @@ impl Progress {
     }
 }
 
-// One tile more, or eight where their predecessors are correct.
+// One tile more, or as many as are plain: away from the ends, and with correct predecessors only.
 pub fn further(
     settings: Settings,
     step: u64,
@@ -79,12 +79,13 @@ pub fn further(
     ensures onward { λ r. ⌜ done .next < r .next ⌝ }
 {
     let first = done.next;
-    if !plain(before.len(), marks, first) {
+    let count = plain(before.len(), marks, first);
+    if count == 0 {
         let pulsed = pulse(settings, step, before, marks, drifts, phases, links, first);
         return done.put(pulsed, times, letters);
     }
     let mut so_far = done;
-    while so_far.next < first + 8 {
+    while so_far.next < first + count {
         let c = so_far.next;
         let clock = clock(drifts, phases, c);
         let pulsed = correct(settings, step, clock, before, links, c);

@@ -18,12 +18,12 @@ use Rattle.rule.specs.Stamp.{silence}
 use Rattle.columns.specs.Columns.{columns-from, any-of, is-predecessor, predecessors, link, link-place}
 use Rattle.columns.specs.Marks.{marked, mark-bytes, faulty-among}
 use Rattle.columns.proofs.Laws.Lists.{by-test, none-of}
+use Rattle.columns.proofs.Laws.Plain.{unmarked}
 use Rattle.links.specs.Links.{latest-time, bad-value, bad-link, bad-links}
 use Rattle.admission.specs.Limits.{Hears, Link-at, Tile-limits}
 use Rattle.admission.specs.Refusal.{stray-mark, crowded, over}
 use Rattle.admission.proofs.Laws.Accepted.{delay-of, arrival-of}
 use Rattle.admission.proofs.Laws.Hears.{hears-true, true-hears, link-there, link-is, two-marked, one-marked}
-use Rattle.admission.proofs.Laws.Quiet.{unmarked}
 
 -- the tests of a row's marks, drifts and link values
 pub record None-applies (s : Settings) (ms ds qs ls : List ℕ) : Type 0 where

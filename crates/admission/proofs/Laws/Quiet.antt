@@ -1,10 +1,8 @@
--- Bytes of marks that hold none: their columns are correct, and their tiles have at most one faulty predecessor. Assumes nothing.
-use mathlib.Core.Path.{_≡_, _∙_, ap}
+-- Bytes of marks that hold none: their tiles have at most one faulty predecessor. Assumes nothing.
+use mathlib.Core.Path.{_≡_}
 use mathlib.Core.Bool.{false}
 use mathlib.Core.List.{List}
-use Prim.Native.Nat.{ℕ, _+_, _-_, _/_, _%_, _^_, _≤_, _<_}
-use lib.ListN.{getD}
-use native.Mathlib.Nat.{zero-div}
+use Prim.Native.Nat.{ℕ, _+_, _-_, _≤_, _<_}
 use native.Mathlib.Omega.{arith}
 use borrow.Author.Tests.{le-ltb}
 use Rattle.settings.proofs.Laws.Cases.{by-order}
@@ -15,20 +13,12 @@ use Rattle.admission.specs.Refusal.{crowded}
 use Rattle.columns.specs.Window.{four-senders}
 use Rattle.columns.proofs.Laws.Columns.{four-no}
 use Rattle.columns.proofs.Laws.Lists.{by-test}
+use Rattle.columns.proofs.Laws.Plain.{quiet-column}
 use Rattle.columns.proofs.Laws.Window.{digit, digit-most, sender-low, sender-inner, faulty-three, faulty-four}
 
-pub unmarked : (ms : List ℕ) (k : ℕ) → getD ms (k / 8) 0 ≡ 0 → marked ms k ≡ false
-unfolding marked
-unmarked ms k e = rw (e, zero-div (2 ^ (k % 8)))
-
 module _ (w : ℕ) (ms : List ℕ) {c : ℕ} (q : Quiet w ms c) where
-  pub quiet-column : (k : ℕ) → c ≤ k → k < c + 8 → marked ms k ≡ false
-  quiet-column k i j =
-      let same : k / 8 ≡ c / 8 = omega (arith, q .starts) in
-      unmarked ms k (ap (λ (b : ℕ). getD ms b 0) same ∙ q .none)
-
   blank : (k : ℕ) → c ≤ k → k < c + 8 → digit ms k ≡ 0
-  blank k i j = rw (quiet-column k i j)
+  blank k i j = rw (quiet-column w ms q k i j)
 
   -- the first three tiles hear the first four columns at most
   early : (k : ℕ) → c ≤ k → k ≤ 2 → faulty-among ms (predecessors w k) ≤ 1

@@ -9,7 +9,6 @@ use Rattle.settings.specs.Settings.{step-of}
 use Rattle.rule.specs.Stamp.{code-of}
 use Rattle.rule.specs.declared.clock.Clock.{Clock}
 use Rattle.settings.specs.declared.Settings.{Settings}
-use Rattle.settings.proofs.Laws.Cases.{by-order, by-equal}
 use Rattle.settings.proofs.Laws.Settings.{Limits, limits}
 use Rattle.admission.specs.Call.{Call}
 use Rattle.columns.specs.Marks.{marked}
@@ -19,22 +18,13 @@ use Rattle.pulse.specs.Plain.{Receivable, received, from-left, from-own,
 use Rattle.pulse.specs.declared.Pulsed.{Pulsed}
 use Rattle.columns.proofs.Laws.Columns.{links-inner, neighbours-inner}
 use Rattle.admission.proofs.Laws.Accepted.{Accepted}
-use Rattle.admission.proofs.Laws.Quiet.{quiet-column}
 use Rattle.columns.specs.Columns.{links-before}
 use Rattle.columns.specs.Window.{first-sender}
 use Rattle.columns.proofs.Laws.Window.{sender-inner}
 use Rattle.pulse.proofs.Laws.Senders.{Sender, sender}
 use Rattle.pulse.proofs.Laws.Stampable.{stamped-correct, stampable, code, Pulsing, pulse-two, ready-at, pulses-at}
 
-pub plain-column : {w : ℕ} {ms : List ℕ} {c : ℕ} → Plain w ms c → (k : ℕ) → c ≤ k + 1 → k ≤ c + 8 → marked ms k ≡ false
-plain-column {w} {ms} {c} p k i j =
-    by-equal k (c + 8)
-    (λ e. rw e (p .right))
-    (λ n. by-order c k
-    (λ l. quiet-column w ms (p .quiet) k l (omega arith))
-    (λ l. let e : k ≡ c - 1 = omega arith in rw e (p .left)))
-
-module _ {s : Settings} {ts : List ℕ} {x : Call} (r : Accepted s ts x) {c : ℕ} (p : Plain (s .width) (x .marks) c) (k : ℕ) (i : c ≤ k) (j : k < c + 8) where
+module _ {s : Settings} {ts : List ℕ} {x : Call} (r : Accepted s ts x) {c count : ℕ} (p : Plain (s .width) (x .marks) c count) (k : ℕ) (i : c ≤ k) (j : k < c + count) where
   abbrev clock : Clock
   clock = clock-of (x .drifts) (x .phases) k
 
@@ -43,11 +33,11 @@ module _ {s : Settings} {ts : List ℕ} {x : Call} (r : Accepted s ts x) {c : �
 
   -- away from the ends
   record Away : Type 0 where
-    pub past : 8 ≤ k
+    pub past : 3 ≤ k
     pub short : k + 3 < s .width
 
   away : Away
-  away = record { past = omega (arith, p .later, p .quiet .starts); short = omega (arith, p .quiet .inside) }
+  away = record { past = omega (arith, p .past); short = omega (arith, p .short) }
 
   here : k < s .width
   here = omega (arith, away .short)
@@ -72,13 +62,13 @@ module _ {s : Settings} {ts : List ℕ} {x : Call} (r : Accepted s ts x) {c : �
   heard {n} {q} e m = sym (stamped-correct clock ts (x .marks) (x .links) n q m) ∙ code r k here e
 
   correct-left : marked (x .marks) (k - 1) ≡ false
-  correct-left = plain-column p (k - 1) (omega (arith, away .past)) (omega arith)
+  correct-left = p .correct (k - 1) (omega (arith, away .past)) (omega arith)
 
   correct-own : marked (x .marks) k ≡ false
-  correct-own = plain-column p k (omega arith) (omega arith)
+  correct-own = p .correct k (omega arith) (omega arith)
 
   correct-right : marked (x .marks) (k + 1) ≡ false
-  correct-right = plain-column p (k + 1) (omega arith) (omega arith)
+  correct-right = p .correct (k + 1) (omega arith) (omega arith)
 
   pulsing : (step : ℕ) →
       let ls = x .links in

@@ -1,11 +1,10 @@
--- `progress::further` meets its contract. The loop's invariant: the row is filled so far, and at most eight tiles were passed, all of
--- a plain stretch. Assumes nothing.
+-- `progress::further` meets its contract. The loop's invariant: the row is filled so far, and the tiles that were passed are of a plain
+-- stretch. Assumes nothing.
 use mathlib.Core.Path.{_≡_, sym, _∙_, ap, subst}
 use Prim.Native.Nat.{ℕ, _+_, _-_, _≤_, _<_}
 use lib.ListN.{length}
 use native.Mathlib.Omega.{arith}
 use borrow.Author.Needs.{needs}
-use borrow.Author.Tests.{not-false}
 use Rattle.settings.proofs.Laws.Settings.{Limits, limits}
 use Rattle.admission.specs.Call.{Call, call}
 use Rattle.pulse.specs.Pulse.{pulse}
@@ -21,13 +20,13 @@ use Rattle.row.proofs.progress.further.Statement.{statement}
 use Rattle.row.proofs.progress.further.Tie as tie
 
 abbrev Inv-loop : tie.InvT-loop
-Inv-loop settings step before marks drifts phases links times₀ letters₀ first so-far₀ times letters so-far =
+Inv-loop settings step before marks drifts phases links times₀ letters₀ first count so-far₀ times letters so-far =
     So-far settings before (call marks drifts phases links (settings .width) (settings .width)) (pulses times₀ letters₀) (pulses times letters) so-far
     × (first ≤ so-far .next)
-    × (so-far .next ≤ first + 8)
+    × (so-far .next ≤ first + count)
 
 abbrev μ-loop : tie.MeasureT-loop
-μ-loop settings step before marks drifts phases links times₀ letters₀ first so-far₀ times letters so-far = first + 8 - so-far .next
+μ-loop settings step before marks drifts phases links times₀ letters₀ first count so-far₀ times letters so-far = first + count - so-far .next
 
 abbrev start : tie.After-plain Inv-loop μ-loop → tie.Start Inv-loop μ-loop
 start c = c .before .before .before .before .before .before .before .before
@@ -94,37 +93,38 @@ returns c =
       omega (arith, ap (λ (d : Progress). d .next) (p .put .ensures .1 .1)),
     )
 
--- eight tiles
+-- a plain stretch
+stretch : (e : tie.Else1 Inv-loop μ-loop) → let a = start (e .before) .args in Plain (a .settings .width) (a .marks .now) (a .done .next) (e .before .plain .result)
+stretch e =
+    let p = e .before in
+    let a = start p .args in
+    subst (λ (w : ℕ). Plain w (a .marks .now) (a .done .next) (p .plain .result)) (sizes (start p) .before) (p .plain .ensures (omega (arith, e .if1 .left)))
+
 loop-holds : tie.Need-loop-holds Inv-loop μ-loop
 loop-holds c = (start (c .before) .pre .1, omega arith, omega arith)
 
 add-if2 : tie.Need-add-if2 Inv-loop μ-loop
-add-if2 c = let z = sizes (start (c .before .before)) in omega (arith, z .here, z .most)
+add-if2 c = omega (arith, stretch (c .before) .short, sizes (start (c .before .before)) .most)
 
 abbrev begin : tie.Then2 Inv-loop μ-loop → tie.Start Inv-loop μ-loop
 begin c = start (c .before .before .before .before)
 
-stretch : (c : tie.Then2 Inv-loop μ-loop) → let a = begin c .args in Plain (length (a .before .now)) (a .marks .now) (a .done .next)
-stretch c =
-    let p = c .before .before .before .before in
-    p .plain .ensures (not-false (p .plain .result) (c .before .before .before .if1 .left))
-
 abbrev column : tie.Then2 Inv-loop μ-loop → ℕ
 column c = c .before .before .loop .«so-far» .next
 
+abbrev count : tie.Then2 Inv-loop μ-loop → ℕ
+count c = c .before .before .before .before .plain .result
+
 record In-row (c : tie.Then2 Inv-loop μ-loop) : Type 0 where
   pub from : begin c .args .done .next ≤ column c
-  pub to : column c < begin c .args .done .next + 8
+  pub to : column c < begin c .args .done .next + count c
   pub in-row : column c + 3 < begin c .args .settings .width
-  pub plain : Plain (begin c .args .settings .width) (begin c .args .marks .now) (begin c .args .done .next)
+  pub plain : Plain (begin c .args .settings .width) (begin c .args .marks .now) (begin c .args .done .next) (count c)
 
 in-row : (c : tie.Then2 Inv-loop μ-loop) → In-row c
 in-row c =
-    let i = c .before .before .loop .inv in
-    let a = begin c .args in
-    let z = sizes (begin c) in
-    let p = subst (λ (w : ℕ). Plain w (a .marks .now) (a .done .next)) (z .before) (stretch c) in
-    record { from = i .1; to = c .if2 .taken; in-row = omega (arith, c .if2 .taken, p .quiet .inside); plain = p }
+    let p = stretch (c .before .before .before) in
+    record { from = c .before .before .loop .inv .1; to = c .if2 .taken; in-row = omega (arith, c .if2 .taken, p .short); plain = p }
 
 clock-requires : tie.Need-clock-requires Inv-loop μ-loop
 clock-requires c κs = let z = sizes (begin c) in (omega (arith, in-row c .in-row, z .drifts), omega (arith, in-row c .in-row, z .phases))
