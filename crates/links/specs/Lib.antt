@@ -1,2 +1,4 @@
 pub mod Links
 pub mod Cases
+-- the code's own
+pub mod Delays

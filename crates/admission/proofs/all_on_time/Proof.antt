@@ -1,20 +1,14 @@
 -- `all_on_time` meets its contract. The loop's invariant: no time passed is over the bits of all of them. Assumes nothing.
 use Prim.Native.Nat.{ℕ, _-_, _≤_, _<_}
-use lib.Bits.{bitOr, or-add-and, and-le-l, and-le-r}
 use lib.ListN.{length, getD}
 use native.Mathlib.Omega.{arith}
 use borrow.Author.Tests.{leb-true}
 use Rattle.settings.proofs.Laws.Cases.{by-equal}
 use Rattle.links.specs.Links.{latest-time}
+use Rattle.links.proofs.Laws.Bits.{or-left, or-right}
 use Rattle.admission.specs.Together.{All-by}
 use Rattle.admission.proofs.all_on_time.Statement.{statement}
 use Rattle.admission.proofs.all_on_time.Tie as tie
-
-or-left : (a b : ℕ) → a ≤ bitOr a b
-or-left a b = omega (arith, or-add-and a b, and-le-r a b)
-
-or-right : (a b : ℕ) → b ≤ bitOr a b
-or-right a b = omega (arith, or-add-and a b, and-le-l a b)
 
 abbrev Inv-loop : tie.InvT-loop
 Inv-loop before bits₀ c₀ bits c = (c ≤ length before) × ((k : ℕ) → k < c → getD before k 0 ≤ bits)
