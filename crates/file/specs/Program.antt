@@ -1,4 +1,4 @@
--- Calls of the operations `step` and `step_by` themselves, known by their contract alone, which is the same. Assumes nothing.
+-- Calls of the operation `step` itself, known by its contract alone. Assumes nothing.
 use mathlib.Core.Path.{_≡_}
 use mathlib.Core.Bool.{true}
 use mathlib.Core.List.{List, [], _++_}

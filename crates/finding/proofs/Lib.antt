@@ -1,3 +1,1 @@
-pub mod Cases
 pub mod Laws
-pub mod Promises

@@ -7,7 +7,7 @@ use stages::Wall;
 use steps::Taken;
 use told::Told;
 use wide::First;
-use wide::first_wide;
+use wide_rows::first_wide;
 ghost use mathlib.Core.Path.{_≡_};
 ghost use mathlib.Core.Bool.{true};
 ghost use mathlib.Core.List.{[]};
@@ -19,7 +19,20 @@ ghost use Rattle.stages.specs.Fit.{wall-fits};
 ghost use Rattle.steps.specs.Step.{step-of};
 ghost use Rattle.steps.specs.Take.{taken-of};
 ghost use Rattle.told.specs.Telling.{Said};
-ghost use Rattle.finding.specs.Finding.{row-first-at, if-none, if-first, finding};
+ghost use Rattle.found.specs.Finding.{finding};
+ghost use Rattle.finding.specs.Brought.{row-brought, step-brought, telling-of};
+
+// What an accepted part brought: the first wide seam of the row that is then shown, that there is none in all of the file, or nothing.
+pub enum Brought {
+    Wide {
+        row: u64,
+        left: u64,
+        right: u64,
+        half_ticks: u64,
+    },
+    No,
+    Nothing,
+}
 
 // The row is the last before the step, and the part is what the step took. The number kept stays.
 pub fn tell(
@@ -45,101 +58,92 @@ pub fn tell(
             end,
         };
     }
-    match wall {
-        Wall::New => unsaid(after, kept, at),
-        Wall::Start(_) => unsaid(after, kept, at),
-        Wall::Row(place) => {
-            let marks = fields::body((row.len() + 7) / 8, part);
-            row_told(limit, place, after, false, marks, row, kept, out, at)
-        }
-        // The last row has no marks.
-        Wall::End(place) => {
-            let marks = [0u8; 32];
-            let bytes = (row.len() + 7) / 8;
-            row_told(
-                limit,
-                place,
-                after,
-                true,
-                &marks[..bytes],
-                row,
-                kept,
-                out,
-                at,
-            )
-        }
-        Wall::Over => unsaid(after, kept, at),
-    }
+    told(step_brought(limit, wall, part, row), after, kept, out, at)
 }
 
-// Nothing answers yet.
-fn unsaid(wall: Wall, kept: u64, at: usize) -> Told
-    ensures { λ r. ⌜ r ≡ record { wall = wall; kept = kept; end = at } ⌝ }
-{
-    Told {
-        wall,
-        kept,
-        end: at,
-    }
-}
-
-// A row that is shown, unless it is row 0: its first wide seam is the answer; where the last row has none, that there is none.
-fn row_told(
-    limit: u64,
-    place: Place,
-    after: Wall,
-    last: bool,
-    marks: &[u8],
-    row: &[u64],
-    kept: u64,
-    out: &mut [u8],
-    at: usize,
-) -> Told
+// What is told of it: the file is not read on once a wide seam is found.
+fn told(brought: Brought, after: Wall, kept: u64, out: &mut [u8], at: usize) -> Told
     requires { ⌜ at + step-room ≤ length (now out) ⌝ }
-    ensures { λ r. ⌜ Said (if-first (place .row) after last kept (row-first-at limit place (now (marks .entry)) (now (row .entry)))) r (now (out .entry)) at (now (out .exit)) ⌝ }
+    ensures { λ r. ⌜ Said (telling-of after kept brought) r (now (out .entry)) at (now (out .exit)) ⌝ }
 {
-    match row_first(limit, place, marks, row) {
-        First::Wide {
+    match brought {
+        Brought::Wide {
+            row,
             left,
             right,
             half_ticks,
         } => {
-            let end = line(b"wide", &[place.row, left, right, half_ticks], out, at);
+            let end = line(b"wide", &[row, left, right, half_ticks], out, at);
             Told {
                 wall: Wall::Over,
                 kept,
                 end,
             }
         }
-        First::None => none_told(after, last, kept, out, at),
-        // No row of a wall file has such a seam.
-        First::Refused(_) => none_told(after, last, kept, out, at),
-    }
-}
-
-// The first wide seam of a row; row 0 is not shown.
-fn row_first(limit: u64, place: Place, marks: &[u8], row: &[u64]) -> First
-    ensures { λ r. ⌜ r ≡ row-first-at limit place (now (marks .entry)) (now (row .entry)) ⌝ }
-{
-    if place.row == 0 {
-        return First::None;
-    }
-    let settings = place.settings;
-    first_wide(settings, row, marks, limit)
-}
-
-// A row without a wide seam.
-fn none_told(after: Wall, last: bool, kept: u64, out: &mut [u8], at: usize) -> Told
-    requires { ⌜ at + step-room ≤ length (now out) ⌝ }
-    ensures { λ r. ⌜ Said (if-none after last kept) r (now (out .entry)) at (now (out .exit)) ⌝ }
-{
-    if last {
-        let end = line(b"no", &[], out, at);
-        return Told {
+        Brought::No => {
+            let end = line(b"no", &[], out, at);
+            Told {
+                wall: after,
+                kept,
+                end,
+            }
+        }
+        Brought::Nothing => Told {
             wall: after,
             kept,
-            end,
-        };
+            end: at,
+        },
     }
-    unsaid(after, kept, at)
+}
+
+// What a step brought whose part is accepted.
+fn step_brought(limit: u64, wall: Wall, part: &[u8], row: &[u64]) -> Brought
+    requires { ⌜ wall-fits wall (length (now row)) ≡ true ⌝ }
+    ensures { λ r. ⌜ r ≡ step-brought limit wall (now (row .entry)) (now (part .entry)) ⌝ }
+{
+    match wall {
+        Wall::New => Brought::Nothing,
+        Wall::Start(_) => Brought::Nothing,
+        Wall::Row(place) => {
+            let marks = fields::body((row.len() + 7) / 8, part);
+            row_brought(limit, place, false, marks, row)
+        }
+        // The last row has no marks.
+        Wall::End(place) => {
+            let marks = [0u8; 32];
+            let bytes = (row.len() + 7) / 8;
+            row_brought(limit, place, true, &marks[..bytes], row)
+        }
+        Wall::Over => Brought::Nothing,
+    }
+}
+
+// What the row at a place brought; row 0 is not shown.
+fn row_brought(limit: u64, place: Place, last: bool, marks: &[u8], row: &[u64]) -> Brought
+    ensures { λ r. ⌜ r ≡ row-brought limit place last (now (marks .entry)) (now (row .entry)) ⌝ }
+{
+    if place.row != 0 {
+        let settings = place.settings;
+        match first_wide(settings, row, marks, limit) {
+            First::Wide {
+                left,
+                right,
+                half_ticks,
+            } => {
+                return Brought::Wide {
+                    row: place.row,
+                    left,
+                    right,
+                    half_ticks,
+                };
+            }
+            First::None => {}
+            // No row of a wall file has such a seam.
+            First::Refused(_) => {}
+        }
+    }
+    if last {
+        return Brought::No;
+    }
+    Brought::Nothing
 }

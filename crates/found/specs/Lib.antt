@@ -1,3 +1,4 @@
 pub mod Found
+pub mod Finding
 pub mod Promises
 pub mod Cases

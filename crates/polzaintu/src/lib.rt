@@ -208,7 +208,7 @@ pub extern "C" fn polzaintu_first_wide(
     ensures wide { λ r. ⌜ now (wide .exit) ≡ wide-left (first-wide (settings-from 0 (now (settings .entry))) (now (times .entry)) (now (marks .entry)) limit) (now (wide .entry)) ⌝ }
 {
     calls::first_wide_left(
-        wide::first_wide(settings_in(settings), times, marks, limit),
+        wide_rows::first_wide(settings_in(settings), times, marks, limit),
         found,
         wide,
     )

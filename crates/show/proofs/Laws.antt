@@ -1,5 +1,5 @@
 -- The text of a step, by what it shows, and the row that it leaves. Assumes nothing.
-use mathlib.Core.Path.{_≡_, refl, _∙_, ap}
+use mathlib.Core.Path.{_≡_, refl, sym, _∙_, ap}
 use mathlib.Core.List.{List, [], _∷_, _++_, append-nil}
 use Prim.Native.Nat.{ℕ, zero, suc, _+_, _≤_}
 use lib.ListN.{length, take, drop, replicate}
@@ -9,12 +9,11 @@ use Rattle.settings.specs.declared.Settings.{Settings}
 use Rattle.settings.proofs.Laws.Cases.{by-equal}
 use Rattle.lines.specs.Line.{refused-line}
 use Rattle.lines.specs.Row.{row-text}
-use Rattle.row.specs.Row.{Pulses, pulses, row-of, letters-of}
+use Rattle.row.specs.Row.{Pulses}
 use Rattle.columns.specs.Marks.{mark-bytes}
-use Rattle.columns.proofs.Laws.Lists.{table-length}
 use Rattle.fields.specs.Field.{field-refusal}
 use Rattle.contents.specs.Contents.{marks-in}
-use Rattle.steps.specs.Answer.{number-due, wall-then, row-then, shown-then}
+use Rattle.steps.specs.Answer.{number-due, offset-due, wall-then, row-then, shown-then}
 use Rattle.steps.specs.Shown.{row-shown, no-marks, number-shown, offset-shown}
 use Rattle.show.specs.Text.{text-of, texts-of}
 use Rattle.steps.specs.Number.{row-number}
@@ -24,8 +23,8 @@ use Rattle.stages.specs.declared.Place.{Place}
 use Rattle.stages.specs.declared.Wall.{Wall}
 use Rattle.stages.specs.declared.Wall.the-variants.{New, Start, Row, End, Over}
 use Rattle.fields.proofs.Laws.Field.{else-none, field-there}
-use Rattle.contents.proofs.Laws.Contents.{times-length, marks-length}
-use Rattle.steps.proofs.Laws.Answer.{step-goes, step-away, no-refusal, row-goes-on}
+use Rattle.contents.proofs.Laws.Contents.{marks-length}
+use Rattle.steps.proofs.Laws.Answer.{step-goes, step-away, no-refusal, row-goes-on, row-stays}
 
 -- the lines of a row; row 0 has none
 module _ (s : Settings) (ms : List ℕ) (r : Pulses) where
@@ -39,11 +38,7 @@ module _ (s : Settings) (ms : List ℕ) (r : Pulses) where
   row-lines zero k = absurd (k refl)
   row-lines (suc l) k = append-nil _
 
--- a row by its times and its letters
-pub both : {r : Pulses} {ts ls : List ℕ} → ts ≡ r .times → ls ≡ r .letters → pulses ts ls ≡ r
-both e d = rw (e, d)
-
--- a row that is copied over one as long
+-- letters that are copied over as many
 pub copied : (from to : List ℕ) {after : List ℕ} → length from ≡ length to → after ≡ take (length from) from ++ drop (length from) to → after ≡ from
 copied from to e is = is ∙ rw (take-length from, e, drop-length to) (append-nil from)
 
@@ -52,15 +47,6 @@ pub zeros : (n m : ℕ) → n ≤ m → take n (replicate m 0) ≡ replicate {A 
 zeros zero m i = refl
 zeros (suc n) zero i = let never : ⊥ = omega arith in absurd never
 zeros (suc n) (suc m) i = ap (λ (l : List ℕ). 0 ∷ l) (zeros n m (omega arith))
-
--- a step that is turned away shows its refusal alone, and leaves the row
-pub record Alone (o : Stepped) (row : Pulses) : Type 0 where
-  pub text : texts-of (o .shows) ≡ refused-line (number-shown (o .shows)) (offset-shown (o .shows))
-  pub kept : o .row ≡ row
-
-alone-away : {o : Stepped} (row : Pulses) (n at : ℕ) → o ≡ away row n at → Alone o row
-unfolding away stepped texts-of text-of number-shown offset-shown
-alone-away row n at e = rw e (record { text = append-nil (refused-line n at); kept = refl })
 
 -- the number that a step shows is that of its part
 module _ (x : Wall) (row : Pulses) (bs : List ℕ) where
@@ -72,46 +58,33 @@ module _ (x : Wall) (row : Pulses) (bs : List ℕ) where
   unfolding away stepped number-shown
   shown-due z = by-equal (number-due x (row .times) bs) 0 (λ e. e) (λ k. rw (step-away row bs x k) at z)
 
-  pub away-shows : (number-shown (step-of x row bs .shows) ≡ 0 → ⊥) → Alone (step-of x row bs) row
-  away-shows k = alone-away row _ _ (step-away row bs x (λ e. k (due-shown e)))
+  -- a step that is turned away shows its refusal alone
+  pub away-shows : (number-shown (step-of x row bs .shows) ≡ 0 → ⊥) →
+      texts-of (step-of x row bs .shows) ≡ refused-line (number-shown (step-of x row bs .shows)) (offset-shown (step-of x row bs .shows))
+  unfolding away stepped texts-of text-of number-shown offset-shown
+  away-shows k = rw (step-away row bs x (λ e. k (due-shown e))) (append-nil (refused-line (number-due x (row .times) bs) (offset-due x bs)))
 
--- what a step that is taken shows, and the row that it leaves, by its wall
+-- what a step that is taken shows, by its wall
 module _ (x : Wall) (row : Pulses) (bs : List ℕ) (z : number-shown (step-of x row bs .shows) ≡ 0) where
   goes : step-of x row bs ≡ stepped (wall-then x bs) (row-then x (row .times) bs row) (shown-then x row bs)
   goes = step-goes row bs x (shown-due x row bs z)
 
-  pub new-shows : x ≡ New → (texts-of (step-of x row bs .shows) ≡ []) × (step-of x row bs .row ≡ row)
-  unfolding stepped shown-then row-then texts-of
-  new-shows w = rw (goes, w) (refl, refl)
+  pub new-shows : x ≡ New → texts-of (step-of x row bs .shows) ≡ []
+  unfolding stepped shown-then texts-of
+  new-shows w = rw (goes, w)
 
-  pub over-shows : x ≡ Over → (texts-of (step-of x row bs .shows) ≡ []) × (step-of x row bs .row ≡ row)
-  unfolding stepped shown-then row-then texts-of
-  over-shows w = rw (goes, w) (refl, refl)
-
-  -- the row that was written
-  written : (held : Pulses) → next-row x (row .times) bs held ≡ row-then x (row .times) bs held
-  written held = row-goes-on (row .times) bs held x (shown-due x row bs z)
+  pub over-shows : x ≡ Over → texts-of (step-of x row bs .shows) ≡ []
+  unfolding stepped shown-then texts-of
+  over-shows w = rw (goes, w)
 
   module _ {p : Place} where
-    -- row 0, which leaves the letters
-    pub start-shows : x ≡ Start p → (texts-of (step-of x row bs .shows) ≡ []) × (step-of x row bs .row .letters ≡ row .letters)
-    unfolding stepped shown-then row-then texts-of
-    start-shows w = rw (goes, w) (refl, refl)
-
-    pub start-next : x ≡ Start p → (held : Pulses) →
-        (next-row x (row .times) bs held .times ≡ step-of x row bs .row .times) × (length (next-row x (row .times) bs held .times) ≡ p .settings .width)
-    unfolding stepped row-then
-    start-next w held = rw (goes, written held, w) (refl, times-length (p .settings .width) _)
+    pub start-shows : x ≡ Start p → texts-of (step-of x row bs .shows) ≡ []
+    unfolding stepped shown-then texts-of
+    start-shows w = rw (goes, w)
 
     pub row-shows : x ≡ Row p → texts-of (step-of x row bs .shows) ≡ texts-of (row-shown (p .settings) (p .row) (marks-in (p .settings .width) bs) row)
     unfolding stepped shown-then
     row-shows w = rw (goes, w)
-
-    pub row-next : x ≡ Row p → (held : Pulses) →
-        (next-row x (row .times) bs held ≡ step-of x row bs .row)
-        × (length (next-row x (row .times) bs held .times) ≡ p .settings .width) × (length (next-row x (row .times) bs held .letters) ≡ p .settings .width)
-    unfolding stepped row-then row-of letters-of
-    row-next w held = rw (goes, written held, w) (refl, table-length _ (p .settings .width) 0, table-length _ (p .settings .width) 0)
 
     -- its marks are there
     marks-there : x ≡ Row p → field-refusal 3 (mark-bytes (p .settings .width)) bs ≡ 0
@@ -124,7 +97,14 @@ module _ (x : Wall) (row : Pulses) (bs : List ℕ) (z : number-shown (step-of x 
     pub row-marks : x ≡ Row p → length (marks-in (p .settings .width) bs) ≡ mark-bytes (p .settings .width)
     row-marks w = marks-length (p .settings .width) bs (marks-there w)
 
-    pub end-shows : x ≡ End p →
-        (texts-of (step-of x row bs .shows) ≡ texts-of (row-shown (p .settings) (p .row) (no-marks (p .settings .width)) row)) × (step-of x row bs .row ≡ row)
-    unfolding stepped shown-then row-then
-    end-shows w = rw (goes, w) (refl, refl)
+    pub end-shows : x ≡ End p → texts-of (step-of x row bs .shows) ≡ texts-of (row-shown (p .settings) (p .row) (no-marks (p .settings .width)) row)
+    unfolding stepped shown-then
+    end-shows w = rw (goes, w)
+
+-- a step that is lent the last row's own place to write leaves the row of the definition there
+pub row-in-place : (x : Wall) (row : Pulses) (bs : List ℕ) → next-row x (row .times) bs row ≡ step-of x row bs .row
+unfolding away stepped
+row-in-place x row bs =
+    by-equal (number-due x (row .times) bs) 0
+    (λ e. row-goes-on (row .times) bs row x e ∙ sym (ap (λ (o : Stepped). o .row) (step-goes row bs x e)))
+    (λ k. row-stays (row .times) bs row x k ∙ sym (ap (λ (o : Stepped). o .row) (step-away row bs x k)))

@@ -2,7 +2,6 @@
 use stages::Place;
 use stages::Wall;
 use steps::Taken;
-use steps::rows::copy;
 ghost use mathlib.Core.Path.{_≡_};
 ghost use mathlib.Core.Bool.{true};
 ghost use Prim.Native.Nat.{_+_, _≤_};
@@ -16,26 +15,21 @@ ghost use Rattle.show.specs.Text.{texts-of};
 ghost use Rattle.steps.specs.Step.{step-of};
 ghost use Rattle.stages.specs.Fit.{place-fits, wall-fits};
 ghost use Rattle.lines.specs.Row.{step-room};
-ghost use Rattle.steps.specs.Take.{taken-of, Next-row};
+ghost use Rattle.steps.specs.Take.{taken-of};
 
-// Writes the text of a step that was taken, and its row, times and letters, in the place of the last; answers
-// where the text ends.
+// Writes the text of a step that was taken from the row lent, its times and letters; answers where the text ends.
 pub fn show(
     tables: &[u64],
     wall: Wall,
     taken: Taken,
     part: &[u8],
-    next: &[u64],
-    next_letters: &[u8],
-    row: &mut [u64],
-    letters: &mut [u8],
+    row: &[u64],
+    letters: &[u8],
     out: &mut [u8],
     at: usize,
 ) -> usize
-    requires { ⌜ Tables (now tables) × (wall-fits wall (length (now row)) ≡ true) × (wall-fits wall (length (now letters)) ≡ true) × (at + step-room ≤ length (now out)) ⌝ }
-    requires { ⌜ (taken ≡ taken-of (step-of wall (pulses (now row) (now letters)) (now part))) × Next-row wall (now row) (now part) (pulses (now next) (now «next_letters»)) ⌝ }
-    ensures text { λ r. ⌜ Wrote (now (out .entry)) at (texts-of (step-of wall (pulses (now (row .entry)) (now (letters .entry))) (now (part .entry)) .shows)) (now (out .exit)) r ⌝ }
-    ensures row { λ r. ⌜ pulses (now (row .exit)) (now (letters .exit)) ≡ step-of wall (pulses (now (row .entry)) (now (letters .entry))) (now (part .entry)) .row ⌝ }
+    requires { ⌜ Tables (now tables) × (wall-fits wall (length (now row)) ≡ true) × (wall-fits wall (length (now letters)) ≡ true) × (at + step-room ≤ length (now out)) × (taken ≡ taken-of (step-of wall (pulses (now row) (now letters)) (now part))) ⌝ }
+    ensures { λ r. ⌜ Wrote (now (out .entry)) at (texts-of (step-of wall (pulses (now (row .entry)) (now (letters .entry))) (now (part .entry)) .shows)) (now (out .exit)) r ⌝ }
 {
     let number = taken.number;
     if number != 0 {
@@ -43,16 +37,10 @@ pub fn show(
     }
     match wall {
         Wall::New => at,
-        Wall::Start(_) => {
-            copy(next, row);
-            at
-        }
+        Wall::Start(_) => at,
         Wall::Row(place) => {
             let marks = fields::body((row.len() + 7) / 8, part);
-            let end = lines(tables, place, marks, row, letters, out, at);
-            copy(next, row);
-            bytes::copy(next_letters, letters);
-            end
+            lines(tables, place, marks, row, letters, out, at)
         }
         Wall::End(place) => last_lines(tables, place, row, letters, out, at),
         Wall::Over => at,

@@ -55,8 +55,3 @@ row-after x bs ts held = cond (all-fit x (length ts) held) (next-row x ts bs hel
 pub record Takes (x : Wall) (part row : List ℕ) (held : Pulses) (answer : Answer) (next : Pulses) : Type 0 where
   pub answered : answer ≡ answer-of x part row held
   pub written : next ≡ row-after x part row held
-
--- §17.3 rows as a step wrote them, whatever they held before
-pub record Next-row (x : Wall) (row part : List ℕ) (next : Pulses) : Type 0 where
-  pub held : Pulses
-  pub is : next ≡ next-row x row part held

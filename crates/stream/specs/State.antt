@@ -87,8 +87,9 @@ pub record Ends {K : Type 0} (step : Kind K) (first : K) (r : Outcome) (k : K) (
   pub ran : Ran step first (r .state .window .ended) (r .state .wall) k lent held (take (r .state .text) output)
   pub done : r .ended ≡ Done → (r .state .wall ≡ Over) × (r .state .text ≡ 0)
 
--- §16.4 a run from its start comes to this, with buffers that are its own
-pub record Comes-to {K : Type 0} (step : Kind K) (first : K) (r : Outcome) (k : K) : Type 0 where
+-- §16.4 a run from its start comes to this, with what it kept and with buffers that are its own
+pub record Comes-to {K : Type 0} (step : Kind K) (first : K) (r : Outcome) : Type 0 where
+  pub keeps : K
   pub lent : Pulses
   pub output : List ℕ
-  pub ends : Ends step first r k lent output
+  pub ends : Ends step first r keeps lent output

@@ -1,5 +1,5 @@
 -- What a step leaves in the buffers of a run, from what it told. Assumes nothing.
-use mathlib.Core.Path.{_≡_, sym, _∙_, ap}
+use mathlib.Core.Path.{_≡_, _∙_, ap}
 use mathlib.Core.List.{List, _++_}
 use Prim.Native.Nat.{ℕ, _+_, _-_, min}
 use lib.ListN.{length, take, drop}
@@ -11,8 +11,7 @@ use Rattle.told.specs.declared.Told.{Told}
 use Rattle.stream.specs.State.{stepped, Advanced}
 use Rattle.stream.specs.declared.State.{State}
 use Rattle.stream.proofs.Laws.State.{part-taken}
-use Rattle.questions.specs.Questions.{Tells}
-use Rattle.asked.specs.Asked.{told-of, step-for}
+use Rattle.asked.specs.Asked.{told-of, step-for, Tells}
 use Rattle.asked.specs.declared.Asked.{Asked}
 
 -- `stop` is where the due part ends, and the rows of the wall's width stand in longer buffers
@@ -38,6 +37,6 @@ module _ (a : Asked) (rows : List ℕ) (s : State) (m : ℕ) (input : List ℕ) 
       record {
         state = made ∙ rw (end, on .said .wall);
         keeps = on .said .kept;
-        row = λ k. cut-placed after long letters-long ∙ on .row (λ e. k (sym (on .said .wall) ∙ e));
+        row = λ _. cut-placed after long letters-long ∙ on .row;
         text = rw end (on .said .text);
       }

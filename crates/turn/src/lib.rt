@@ -1,6 +1,6 @@
-// A turn of a pass: the step of the part that is due, and what it tells in the buffer, whatever is asked.
+// A turn of a pass: the step of the part that is due, with its buffers.
 use asked::Asked;
-use asked::step;
+use asked_step::step;
 use stream::State;
 ghost use Prim.Native.Nat.{_+_, _≤_};
 ghost use lib.ListN.{length, take};
@@ -15,41 +15,39 @@ pub struct Going {
     pub kept: u64,
 }
 
-// Takes the step of the due part, or of what is left where the input has ended.
+// Takes the step of the due part, or of what is left where the input has ended. `links` is room for link values.
 pub fn advance(
     asked: Asked,
-    rows: &[u64],
-    tables: &[u64],
-    links: &mut [u64],
+    given: &[u64],
     state: State,
     kept: u64,
     input: &[u8],
+    links: &mut [u64],
     row: &mut [u64],
     letters: &mut [u8],
-    next: &mut [u64],
-    next_letters: &mut [u8],
     output: &mut [u8],
 ) -> Going
-    requires { ⌜ has-tables asked (now tables) × (770 ≤ length (now links)) × Between state (length (now input)) (length (now output)) × (256 ≤ length (now row)) × (256 ≤ length (now letters)) × (256 ≤ length (now next)) × (256 ≤ length (now «next_letters»)) × (state .text + step-room ≤ length (now output)) ⌝ }
-    ensures { λ r. ⌜ Advanced (step-for asked (take 16 (now (rows .entry)))) state kept (now (input .entry)) (pulses (now (row .entry)) (now (letters .entry))) (now (output .entry)) (r .state) (r .kept) (pulses (now (row .exit)) (now (letters .exit))) (now (output .exit)) ⌝ }
+    requires { ⌜ has-tables asked (now given) × Between state (length (now input)) (length (now output)) × (770 ≤ length (now links)) × (256 ≤ length (now row)) × (256 ≤ length (now letters)) × (state .text + step-room ≤ length (now output)) ⌝ }
+    ensures { λ r. ⌜ Advanced (step-for asked (take 16 (now (given .entry)))) state kept (now (input .entry)) (pulses (now (row .entry)) (now (letters .entry))) (now (output .entry)) (r .state) (r .kept) (pulses (now (row .exit)) (now (letters .exit))) (now (output .exit)) ⌝ }
 {
     let wall = state.wall;
     let window = state.window;
     let start = window.start;
     let stop = state.part_end();
     let width = wall.width();
+    let mut last = [0u64; 256];
+    let mut last_letters = [0u8; 256];
     let told = step(
         asked,
-        rows,
-        tables,
-        links,
+        given,
         wall,
         kept,
         &input[start..stop],
+        links,
+        &mut last[..width],
+        &mut last_letters[..width],
         &mut row[..width],
         &mut letters[..width],
-        &mut next[..width],
-        &mut next_letters[..width],
         output,
         state.text,
     );

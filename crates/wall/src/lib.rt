@@ -4,15 +4,21 @@ use lines::ROOM;
 use show::show;
 use stages::Wall;
 use stages::fits;
+use steps::Taken;
+use steps::rows::copy;
 ghost use mathlib.Core.Path.{_≡_};
 ghost use Prim.Native.Nat.{_+_, _≤_};
 ghost use lib.Dec.{leb};
 ghost use lib.ListN.{length};
-ghost use Rattle.tables.specs.Word.{Tables};
-ghost use Rattle.stages.specs.Fit.{width-of};
+ghost use mathlib.Core.Bool.{true};
+ghost use Rattle.columns.specs.Wrote.{Wrote};
 ghost use Rattle.lines.specs.Row.{step-room};
 ghost use Rattle.row.specs.Row.{pulses};
-ghost use Rattle.wall.specs.Operation.{Stepping};
+ghost use Rattle.stages.specs.Fit.{width-of, wall-fits};
+ghost use Rattle.steps.specs.Step.{step-of};
+ghost use Rattle.steps.specs.Take.{taken-of};
+ghost use Rattle.show.specs.Text.{texts-of};
+ghost use Rattle.wall.specs.Operation.{replaced, Stepping};
 
 // The wall as a step leaves it, and where the text ends.
 pub struct Went {
@@ -38,26 +44,6 @@ pub fn step(
 ) -> Answer
     ensures { λ r. ⌜ Stepping wall (now (part .entry)) (pulses (now (row .entry)) (now (letters .entry))) (now (out .entry)) at r (pulses (now (row .exit)) (now (letters .exit))) (now (out .exit)) ⌝ }
 {
-    let mut tables = tables::space();
-    tables::fill(&mut tables);
-    let mut links = row_fields::link_space();
-    step_by(wall, &tables, &mut links, part, row, letters, out, at)
-}
-
-// The same with tables, and room for link values, that are made once for all steps.
-pub fn step_by(
-    wall: Wall,
-    tables: &[u64],
-    links: &mut [u64],
-    part: &[u8],
-    row: &mut [u64],
-    letters: &mut [u8],
-    out: &mut [u8],
-    at: usize,
-) -> Answer
-    requires { ⌜ Tables (now tables) × (770 ≤ length (now links)) ⌝ }
-    ensures { λ r. ⌜ Stepping wall (now (part .entry)) (pulses (now (row .entry)) (now (letters .entry))) (now (out .entry)) at r (pulses (now (row .exit)) (now (letters .exit))) (now (out .exit)) ⌝ }
-{
     if !has_room(out.len(), at) {
         return Answer::Unfit;
     }
@@ -66,8 +52,6 @@ pub fn step_by(
     let mut next_letters = letter_space();
     step_in(
         wall,
-        tables,
-        links,
         part,
         &mut next[..width],
         &mut next_letters[..width],
@@ -78,11 +62,9 @@ pub fn step_by(
     )
 }
 
-// With room for the next row and its letters too, and for the text of any step.
-pub fn step_in(
+// With room for the next row and its letters, and for the text of any step.
+fn step_in(
     wall: Wall,
-    tables: &[u64],
-    links: &mut [u64],
     part: &[u8],
     next: &mut [u64],
     next_letters: &mut [u8],
@@ -91,33 +73,66 @@ pub fn step_in(
     out: &mut [u8],
     at: usize,
 ) -> Answer
-    requires { ⌜ Tables (now tables) × (770 ≤ length (now links)) × (length (now next) ≡ width-of wall) × (length (now «next_letters») ≡ width-of wall) × (at + step-room ≤ length (now out)) ⌝ }
+    requires { ⌜ (length (now next) ≡ width-of wall) × (length (now «next_letters») ≡ width-of wall) × (at + step-room ≤ length (now out)) ⌝ }
     ensures { λ r. ⌜ Stepping wall (now (part .entry)) (pulses (now (row .entry)) (now (letters .entry))) (now (out .entry)) at r (pulses (now (row .exit)) (now (letters .exit))) (now (out .exit)) ⌝ }
 {
     if !fits(wall, letters.len()) {
         return Answer::Unfit;
     }
-    match steps::take_in(wall, part, row, links, next, next_letters) {
+    match steps::take(wall, part, row, next, next_letters) {
         steps::Answer::Taken(taken) => {
-            let next_wall = taken.wall;
-            let end = show(
-                tables,
-                wall,
-                taken,
-                part,
-                next,
-                next_letters,
-                row,
-                letters,
-                out,
-                at,
-            );
-            Answer::Went(Went {
-                wall: next_wall,
-                end,
-            })
+            let after = taken.wall;
+            let number = taken.number;
+            let end = text(wall, taken, part, row, letters, out, at);
+            replace(wall, number, next, next_letters, row, letters);
+            Answer::Went(Went { wall: after, end })
         }
         steps::Answer::Unfit => Answer::Unfit,
+    }
+}
+
+// Writes the text of a step that was taken; answers where it ends.
+fn text(
+    wall: Wall,
+    taken: Taken,
+    part: &[u8],
+    row: &[u64],
+    letters: &[u8],
+    out: &mut [u8],
+    at: usize,
+) -> usize
+    requires { ⌜ (wall-fits wall (length (now row)) ≡ true) × (wall-fits wall (length (now letters)) ≡ true) × (at + step-room ≤ length (now out)) × (taken ≡ taken-of (step-of wall (pulses (now row) (now letters)) (now part))) ⌝ }
+    ensures { λ r. ⌜ Wrote (now (out .entry)) at (texts-of (step-of wall (pulses (now (row .entry)) (now (letters .entry))) (now (part .entry)) .shows)) (now (out .exit)) r ⌝ }
+{
+    let mut tables = tables::space();
+    tables::fill(&mut tables);
+    show(&tables, wall, taken, part, row, letters, out, at)
+}
+
+// Where the part was accepted, the next row takes the place of the last: row 0, which has no letters, or a later row.
+fn replace(
+    wall: Wall,
+    number: u32,
+    next: &[u64],
+    next_letters: &[u8],
+    row: &mut [u64],
+    letters: &mut [u8],
+)
+    requires { ⌜ (wall-fits wall (length (now row)) ≡ true) × (wall-fits wall (length (now letters)) ≡ true) × (length (now next) ≡ width-of wall) × (length (now «next_letters») ≡ width-of wall) ⌝ }
+    ensures { λ _. ⌜ pulses (now (row .exit)) (now (letters .exit)) ≡ replaced wall number (pulses (now (next .entry)) (now («next_letters» .entry))) (pulses (now (row .entry)) (now (letters .entry))) ⌝ }
+{
+    if number != 0 {
+        return;
+    }
+    match wall {
+        Wall::New => {}
+        Wall::Start(_) => copy(next, row),
+        Wall::Row(_) => {
+            copy(next, row);
+            bytes::copy(next_letters, letters);
+        }
+        Wall::End(_) => {}
+        Wall::Over => {}
     }
 }
 

@@ -1,5 +1,6 @@
 // Runs the wall files that its arguments name, and writes each name and what the file gives. The files, the
 // names and what must come out are made by the reference program (reference/README.md).
+use asked::Asked;
 use libc::STDOUT_FILENO;
 use stream::Ended;
 
@@ -23,8 +24,9 @@ fn case(i: usize) {
         os::fail(name);
         return;
     }
-    let passed = pass::lines(file, STDOUT_FILENO);
-    let outcome = passed.outcome;
+    let mut tables = tables::space();
+    tables::fill(&mut tables);
+    let outcome = pass::run(file, STDOUT_FILENO, Asked::Lines, &tables);
     let ended = outcome.ended;
     match ended {
         Ended::Done => {}

@@ -1,11 +1,12 @@
 // Reads a wall file and writes its search range to standard output, with the reach in the later rows that are asked for.
+use asked::Asked;
 use libc::STDOUT_FILENO;
 use stream::Ended;
 
 fn main() {
-    let mut asked = [0u64; 16];
+    let mut rows = [0u64; 16];
     let from = source::of_call(
-        arguments::read(0, 1, 1024, &mut asked),
+        arguments::read(0, 1, 1024, &mut rows),
         b"wallreach",
         b"",
         b"usage: wallreach [ROW]... [FILE], with at most 16 rows from 1 to 1024\n",
@@ -14,8 +15,7 @@ fn main() {
     if from < 0 {
         return;
     }
-    let passed = pass::search(from, STDOUT_FILENO, &asked);
-    let outcome = passed.outcome;
+    let outcome = pass::run(from, STDOUT_FILENO, Asked::Range, &rows);
     let ended = outcome.ended;
     match ended {
         Ended::Done => {}

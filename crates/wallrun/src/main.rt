@@ -1,4 +1,5 @@
 // Reads a wall file and writes its rows, or its refusal, to standard output.
+use asked::Asked;
 use libc::STDOUT_FILENO;
 use stream::Ended;
 
@@ -14,8 +15,9 @@ fn main() {
     if from < 0 {
         return;
     }
-    let passed = pass::lines(from, STDOUT_FILENO);
-    let outcome = passed.outcome;
+    let mut tables = tables::space();
+    tables::fill(&mut tables);
+    let outcome = pass::run(from, STDOUT_FILENO, Asked::Lines, &tables);
     let ended = outcome.ended;
     match ended {
         Ended::Done => {}

@@ -1,4 +1,5 @@
 // Reads a wall file and writes its first seam whose half gap is over a limit in half ticks, its refusal, or that there is none.
+use asked::Asked;
 use libc::STDOUT_FILENO;
 use stream::Ended;
 
@@ -14,8 +15,7 @@ fn main() {
     if from < 0 {
         return;
     }
-    let passed = pass::wide(from, STDOUT_FILENO, limit[0]);
-    let outcome = passed.outcome;
+    let outcome = pass::run(from, STDOUT_FILENO, Asked::Wide(limit[0]), &[]);
     let ended = outcome.ended;
     match ended {
         Ended::Done => {}

@@ -8,10 +8,12 @@ use Rattle.stages.specs.Fit.{wall-fits}
 use Rattle.steps.specs.Step.{step-of}
 use Rattle.steps.specs.Take.{taken, taken-of, step-from}
 use Rattle.steps.specs.declared.Taken.{Taken}
-use Rattle.wall.proofs.Laws.Fit.{by-wall}
 use Rattle.steps.proofs.Laws.Answer.{taken-same}
 use Rattle.steps.proofs.Laws.Fit.{fit-all, fit-none}
 use Rattle.steps.proofs.Laws.Taken.{Taken-step, taken-step, unfit-step}
+use Rattle.wall.specs.Operation.{replaced}
+use Rattle.wall.proofs.Laws.Fit.{by-wall}
+use Rattle.wall.proofs.Laws.Replaced.{replaced-right}
 use Rattle.wall.proofs.Laws.Stepping.{unfit, went}
 use borrow.Author.Needs.{needs}
 use Rattle.wall.proofs.step_in.Statement.{statement}
@@ -19,7 +21,7 @@ use Rattle.wall.proofs.step_in.Tie as tie
 
 -- the start of the function, the wall's row, and room for the next
 abbrev start : tie.After-fits2 → tie.Start
-start c = c .before .before .before .before .before .before .before .before .before
+start c = c .before .before .before .before .before .before .before
 
 abbrev last : tie.Start → Pulses
 last s = pulses (s .args .row .now) (s .args .letters .now)
@@ -31,18 +33,18 @@ letters-fit : (c : tie.Else1) → let a = start (c .before) .args in wall-fits (
 letters-fit c = sym (c .before .fits2 .ensures) ∙ not-false _ (c .if1 .left)
 
 -- from the step that is taken
-abbrev test : tie.After-take-in → tie.Else1
-test c = c .before .before .before .before .before
+abbrev test : tie.After-take → tie.Else1
+test c = c .before .before .before .before
 
-abbrev begin : tie.After-take-in → tie.Start
+abbrev begin : tie.After-take → tie.Start
 begin c = start (test c .before)
 
-abbrev call : tie.After-taken → tie.After-take-in
-call c = c .before .before .before .before .before .before .before .before
+abbrev call : tie.After-taken → tie.After-take
+call c = c .before .before .before .before .before .before
 
 step : (c : tie.After-taken) → let s = begin (call c) in let a = s .args in
-    Taken-step (a .wall) (a .part .now) (a .row .now) (room s) (c .taken .given .0 .0) (pulses (call c .take-in .last .1 .1 .1 .1 .0) (call c .take-in .last .1 .1 .1 .1 .1 .0))
-step c = taken-step (call c .take-in .ensures) (c .taken .given .1)
+    Taken-step (a .wall) (a .part .now) (a .row .now) (room s) (c .taken .given .0 .0) (pulses (call c .take .last .1 .1 .1 .0) (call c .take .last .1 .1 .1 .1 .0))
+step c = taken-step (call c .take .ensures) (c .taken .given .1)
 
 -- what it answers does not depend on the letters that it is lent
 taken-is : (c : tie.After-taken) → let s = begin (call c) in c .taken .given .0 .0 ≡ taken-of (step-of (s .args .wall) (last s) (s .args .part .now))
@@ -57,20 +59,26 @@ returns c =
     let s = start (c .before) in
     let a = s .args in
     unfit (a .wall) (a .part .now) (last s) (a .out .now) (a .at)
-    (by-wall (a .wall) (last s) (length (a .out .now)) (a .at) (s .pre .4) ∙ rw (sym (c .before .fits2 .ensures) ∙ not-true _ (c .if1 .taken)))
+    (by-wall (a .wall) (last s) (length (a .out .now)) (a .at) (s .pre .2) ∙ rw (sym (c .before .fits2 .ensures) ∙ not-true _ (c .if1 .taken)))
 
-take-in-requires : tie.Need-take-in-requires
-take-in-requires c κs = search needs
+take-requires : tie.Need-take-requires
+take-requires c κs = search needs
 
 enum-known-taken : tie.Need-enum-known-taken
 enum-known-taken c = search needs
 
-show-requires : tie.Need-show-requires
-show-requires c κs =
-    let t = c .before .before .before .before .before .before in
+text-requires : tie.Need-text-requires
+text-requires c κs =
+    let t = c .before .before .before .before in
     let s = begin (call t) in
-    let k = step t in
-    ((s .pre .0, fit-all _ _ _ (k .fits) .0, letters-fit (test (call t)), s .pre .4), (taken-is t, record { held = room s; is = k .written }))
+    (fit-all _ _ _ (step t .fits) .0, letters-fit (test (call t)), s .pre .2, taken-is t)
+
+replace-requires : tie.Need-replace-requires
+replace-requires c κs =
+    let t = c .before .before .before .before .before .before .before .before .before .before .before in
+    let b = call t in
+    let s = begin b in
+    (fit-all _ _ _ (step t .fits) .0, letters-fit (test b), b .take .kept .1 .1 .1 .0 ∙ s .pre .0, b .take .kept .1 .1 .1 .1 .0 ∙ s .pre .1)
 
 enum-told : tie.Need-enum-told
 enum-told c = search needs
@@ -90,19 +98,23 @@ same-length-4 c = search needs
 same-length-5 : tie.Need-same-length-5
 same-length-5 c = search needs
 
-same-length-6 : tie.Need-same-length-6
-same-length-6 c = search needs
-
 returns-2 : tie.Need-returns-2
 unfolding taken-of taken
 returns-2 c =
-    let f = c .before .before .before .before .before .before in
-    let t = f .before .before .before .before .before .before .before in
+    let r = c .before .before .before .before in
+    let f = r .before .before .before .before .before .before .before in
+    let t = f .before .before .before .before .before in
     let s = begin (call t) in
     let a = s .args in
     went (a .wall) (a .part .now) (last s) (a .out .now) (a .at)
-    (by-wall (a .wall) (last s) (length (a .out .now)) (a .at) (s .pre .4) ∙ rw (letters-fit (test (call t))) (fit-all _ _ _ (step t .fits) .0))
-    (ap (λ (u : Taken). u .wall) (taken-is t)) (f .show .ensures .0) (f .show .ensures .1)
+    (by-wall (a .wall) (last s) (length (a .out .now)) (a .at) (s .pre .2) ∙ rw (letters-fit (test (call t))) (fit-all _ _ _ (step t .fits) .0))
+    (ap (λ (u : Taken). u .wall) (taken-is t)) (f .text .ensures)
+    (r .replace .ensures
+    ∙ ap (λ (n : Pulses). replaced (a .wall) (t .taken .given .0 .0 .number) n (last s)) (step t .written)
+    ∙ replaced-right (last s) (a .part .now) (room s) (a .wall) (t .taken .given .0 .0) (taken-is t))
+
+same-length-6 : tie.Need-same-length-6
+same-length-6 c = search needs
 
 same-length-7 : tie.Need-same-length-7
 same-length-7 c = search needs
@@ -110,20 +122,14 @@ same-length-7 c = search needs
 same-length-8 : tie.Need-same-length-8
 same-length-8 c = search needs
 
-same-length-9 : tie.Need-same-length-9
-same-length-9 c = search needs
-
-same-length-10 : tie.Need-same-length-10
-same-length-10 c = search needs
-
 returns-3 : tie.Need-returns-3
 returns-3 c =
-    let t = c .before .before .before .before .before .before .before .before in
+    let t = c .before .before .before .before .before .before in
     let s = begin t in
     let a = s .args in
     unfit (a .wall) (a .part .now) (last s) (a .out .now) (a .at)
-    (by-wall (a .wall) (last s) (length (a .out .now)) (a .at) (s .pre .4)
-    ∙ rw (letters-fit (test t)) (fit-none _ _ (room s) (s .pre .2) (s .pre .3) (unfit-step (t .take-in .ensures) (c .enum-told .given .1))))
+    (by-wall (a .wall) (last s) (length (a .out .now)) (a .at) (s .pre .2)
+    ∙ rw (letters-fit (test t)) (fit-none _ _ (room s) (s .pre .0) (s .pre .1) (unfit-step (t .take .ensures) (c .enum-told .given .1))))
 
 pub step-in-spec : {M : Type 1} → statement M
 step-in-spec =
@@ -131,19 +137,18 @@ step-in-spec =
     (tie.spec
     fits-requires
     returns
-    take-in-requires
+    take-requires
     enum-known-taken
-    show-requires
+    text-requires
+    replace-requires
     enum-told
     same-length
     same-length-2
     same-length-3
     same-length-4
     same-length-5
-    same-length-6
     returns-2
+    same-length-6
     same-length-7
     same-length-8
-    same-length-9
-    same-length-10
     returns-3)
