@@ -1,11 +1,15 @@
 // The words of a call: numbers, then the name of a file. One grammar for every program.
+#![tactic(auto)]
+
 ghost use Rattle.std.specs.Prelude.{◌≡◌, true, ◌≤◌, ◌<◌};
 ghost use Rattle.lines.specs.Promises.{is_digit, all_are, spelt};
 ghost use Rattle.arguments.specs.Words.{number_word, option_word, word_of};
 ghost use Rattle.arguments.specs.Call.{SomeWord, Called};
 
+use std::env::{Env, FillError};
+
 // What a word is by itself.
-#[derive(Drop)]
+#[derive(Clone, Copy)]
 enum Word {
     // Digits that spell a number within the limits.
     Number(u64),
@@ -18,7 +22,7 @@ enum Word {
 }
 
 // What a call asks for. A word is named by its place, 1 for the first.
-#[derive(Drop)]
+#[derive(Clone, Copy)]
 pub enum Call {
     // A wall file on standard input.
     Input,
@@ -32,15 +36,18 @@ pub enum Call {
     Wrong(usize),
 }
 
+// No word has more bytes.
+pub const WORD_MOST: usize = 4096;
+
 // Writes the numbers in front, each from `least` to `largest`, of which `needed` have to be there, and answers what the call asks for.
-pub fn read(needed: usize, least: u64, largest: u64, numbers: &mut [u64]) -> Call
+pub fn read<E: Env>(env: &E, needed: usize, least: u64, largest: u64, numbers: &mut [u64]) -> Call
     requires { largest ≤ 4398046511104 }
     ensures { Called needed least largest numbers.old result numbers.new }
 {
-    let count = os::arg_count();
+    let count = word_count(env);
     let mut i = 1;
     while i < count {
-        match argument(i, least, largest) {
+        match argument(env, i, least, largest) {
             Word::Number(n) => {
                 if numbers.len() < i {
                     return Call::Wrong(i);
@@ -80,17 +87,28 @@ pub fn read(needed: usize, least: u64, largest: u64, numbers: &mut [u64]) -> Cal
     Call::Input
 }
 
+// How many words there are, the program's name among them.
+pub fn word_count<E: Env>(env: &E) -> usize {
+    let mut first = [0u8; 1];
+    for i in 0..usize::MAX {
+        match env.arg(i, &mut first) {
+            Err(FillError::NotPresent) => return i,
+            _ => {}
+        }
+    }
+    usize::MAX
+}
+
 // The word at a place. One that is too long for the buffer is none that is known.
-fn argument(i: usize, least: u64, largest: u64) -> Word
+fn argument<E: Env>(env: &E, i: usize, least: u64, largest: u64) -> Word
     requires { largest ≤ 4398046511104 }
     ensures { SomeWord least largest result }
 {
-    let mut buffer = io::buffer();
-    let n = os::arg(i, &mut buffer);
-    if os::errno() != 0 {
-        return Word::Other;
+    let mut buffer = [0u8; WORD_MOST];
+    match env.arg(i, &mut buffer) {
+        Ok(n) => word_of(&buffer[..n], least, largest),
+        Err(_) => Word::Other,
     }
-    word_of(&buffer[..n], least, largest)
 }
 
 fn word_of(word: &[u8], least: u64, largest: u64) -> Word
@@ -112,10 +130,10 @@ fn word_of(word: &[u8], least: u64, largest: u64) -> Word
 fn option(word: &[u8]) -> Word
     ensures { result ≡ option_word word.now }
 {
-    if check::same(word, b"--help") {
+    if word == b"--help".as_slice() {
         return Word::Help;
     }
-    if check::same(word, b"--version") {
+    if word == b"--version".as_slice() {
         return Word::Version;
     }
     Word::Other

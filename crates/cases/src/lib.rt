@@ -1,14 +1,18 @@
 // A file of cases, for test programs: a case to a line, as a letter that says its kind, numbers, a
 // colon and a label. A line that is empty or starts with '#' is a comment.
+#![tactic(auto)]
+
 mod number;
 mod numbers;
 
-use bytes::scan::find;
-use libc::STDOUT_FILENO;
+ghost use Rattle.std.specs.Prelude.{◌≤◌, length};
+
 pub use numbers::Numbers;
 use numbers::{Words, from_first, of_words};
+use std::io;
+use std::io::Write;
 
-#[derive(Drop)]
+#[derive(Clone, Copy)]
 pub struct Case {
     // The line's letter, and '#' for a comment.
     pub kind: u8,
@@ -35,7 +39,7 @@ fn kind(line: &[u8]) -> u8 {
 
 // The numbers between the kind and the colon of a line that has a label.
 fn before_label(line: &[u8]) -> Words {
-    let colon = find(line, 0, line.len(), b':');
+    let colon = find(line, 0, b':');
     if 0 < colon {
         if colon + 2 <= line.len() {
             return of_words(&line[1..colon]);
@@ -45,20 +49,36 @@ fn before_label(line: &[u8]) -> Words {
 }
 
 // Writes a line's label: what stands after the colon and a space.
-pub fn label(line: &[u8]) {
-    let colon = find(line, 0, line.len(), b':');
+pub fn label(out: &mut impl Write, line: &[u8]) -> io::Result<()> {
+    let colon = find(line, 0, b':');
     if colon + 2 <= line.len() {
-        io::write_all(STDOUT_FILENO, &line[colon + 2..]);
+        return out.write_all(&line[colon + 2..]);
     }
+    Ok(())
 }
 
 // Writes a case's label where it came out, and the whole line where it did not.
-pub fn report(line: &[u8], right: bool) {
+pub fn report(out: &mut impl Write, line: &[u8], right: bool) -> io::Result<()> {
     if right {
-        label(line);
-        io::write_all(STDOUT_FILENO, b": ok\n");
+        label(out, line)?;
+        out.write_all(b": ok\n")
     } else {
-        io::write_all(STDOUT_FILENO, line);
-        io::write_all(STDOUT_FILENO, b": WRONG\n");
+        out.write_all(line)?;
+        out.write_all(b": WRONG\n")
     }
+}
+
+// Where the byte first stands from the start on, and the text's length where it does not.
+pub fn find(text: &[u8], start: usize, byte: u8) -> usize
+    requires { start ≤ length text.now }
+    ensures { (start ≤ result) × (result ≤ length text.now) }
+{
+    let mut at = start;
+    while at < text.len() {
+        if text[at] == byte {
+            return at;
+        }
+        at += 1;
+    }
+    at
 }

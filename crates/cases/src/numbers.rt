@@ -1,9 +1,8 @@
 // The numbers of a line.
-use crate::number;
-use bytes::scan::find;
+use crate::{find, number};
 
 // Up to 19 numbers, from the first, and zeros after them.
-#[derive(Drop)]
+#[derive(Clone, Copy)]
 pub struct Numbers(
     pub u64,
     pub u64,
@@ -27,7 +26,7 @@ pub struct Numbers(
 );
 
 // The last 19 numbers read, the last of them at the end, and how many were read.
-#[derive(Drop)]
+#[derive(Clone, Copy)]
 pub struct Words {
     pub last: Numbers,
     pub count: usize,
@@ -63,7 +62,7 @@ pub fn of_words(words: &[u8]) -> Words {
     let mut count = 0;
     let mut at = 0;
     while at < words.len() {
-        let end = find(words, at, words.len(), b' ');
+        let end = find(words, at, b' ');
         if at < end {
             let number = number::read(&words[at..end]);
             if !number.right {

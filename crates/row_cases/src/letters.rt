@@ -1,5 +1,6 @@
 // The letters that a call leaves.
-use libc::STDOUT_FILENO;
+use std::io;
+use std::io::Write;
 
 // Whether the first six are the characters of a number, the first of them its highest byte, and dashes
 // stand after them.
@@ -20,6 +21,6 @@ pub fn are(letters: &[u8; 1024], expected: u64) -> bool {
 }
 
 // Writes a row's letters, up to 256.
-pub fn write(letters: [u8; 1024], width: u64) {
-    io::write_all(STDOUT_FILENO, &letters[..(width % 257) as usize]);
+pub fn write(out: &mut impl Write, letters: [u8; 1024], width: u64) -> io::Result<()> {
+    out.write_all(&letters[..(width % 257) as usize])
 }

@@ -1,31 +1,34 @@
 // Runs rows through the row operation, as the file `stdin` lists them: faulty senders that are early,
 // late and silent at the columns of either end, for several widths, with phases and without (§E4.1), a
 // call for each number and the order between them, and one at each tie between two letters (§E3.1).
+#![tactic(auto)]
+
 mod letters;
 mod plan;
 
-use bytes::scan::find;
-use cases::Numbers;
-use libc::{STDIN_FILENO, STDOUT_FILENO};
+use cases::{Numbers, find};
 use plan::{Outcome, planned};
+use std::io;
+use std::io::{Read, Write};
 
-fn main() {
-    let mut buffer = io::large_buffer();
-    let n = io::read_full(STDIN_FILENO, &mut buffer);
-    run(&buffer[..n]);
+fn main(rt: HostRuntime) -> io::Result<()> {
+    let mut text = Vec::new(rt.alloc());
+    rt.reader().read_to_end(&mut text)?;
+    run(&mut io::writer(&rt), &text)
 }
 
-fn run(text: &[u8]) {
+fn run(out: &mut impl Write, text: &[u8]) -> io::Result<()> {
     let mut at = 0;
     while at < text.len() {
-        let end = find(text, at, text.len(), b'\n');
-        case(&text[at..end]);
+        let end = find(text, at, b'\n');
+        case(out, &text[at..end])?;
         at = end + 1;
     }
+    Ok(())
 }
 
 // Writes what a row with a faulty tile came to, or whether a call came out.
-fn case(line: &[u8]) {
+fn case(out: &mut impl Write, line: &[u8]) -> io::Result<()> {
     let case = cases::read(line);
     let kind = case.kind;
     if kind != b'#' {
@@ -33,13 +36,13 @@ fn case(line: &[u8]) {
         let fits = fits(kind, case.count, n);
         let given = planned(kind, n);
         if kind == b'f' && fits && given.refusal == 0 {
-            cases::label(line);
-            write(given, n.0);
-        } else {
-            let right = right(n.14, n.15, given);
-            cases::report(line, kind == b'p' && fits && right);
+            cases::label(out, line)?;
+            return write(out, given, n.0);
         }
+        let right = right(n.14, n.15, given);
+        return cases::report(out, line, kind == b'p' && fits && right);
     }
+    Ok(())
 }
 
 // Whether a case has its numbers, and those that are not times or link values fit: a width and a
@@ -66,17 +69,13 @@ fn right(number: u64, letters: u64, given: Outcome) -> bool {
 }
 
 // Writes the earliest and latest time, the digest and the letters of a row with a faulty tile.
-fn write(row: Outcome, width: u64) {
+fn write(out: &mut impl Write, row: Outcome, width: u64) -> io::Result<()> {
     let letters = row.letters;
-    field(b" from ", row.earliest);
-    field(b" to ", row.latest);
-    field(b" ", row.digest);
-    io::write_all(STDOUT_FILENO, b" ");
-    letters::write(letters, width);
-    io::write_all(STDOUT_FILENO, b"\n");
-}
-
-fn field(before: &[u8], n: u64) {
-    io::write_all(STDOUT_FILENO, before);
-    io::print_decimal(STDOUT_FILENO, n);
+    write!(
+        out,
+        " from {} to {} {} ",
+        row.earliest, row.latest, row.digest
+    )?;
+    letters::write(out, letters, width)?;
+    out.write_all(b"\n")
 }

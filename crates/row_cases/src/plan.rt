@@ -6,7 +6,7 @@ use row::Planned;
 use row_inputs::{links, marks, stepping, times};
 use settings::Settings;
 
-#[derive(Drop)]
+#[derive(Clone, Copy)]
 pub struct Outcome {
     // The number under which the call is turned away, or 0.
     pub refusal: u64,
@@ -21,7 +21,7 @@ pub struct Outcome {
 
 // A row's width, how much of each array is lent, and what the row holds before the call. A case with
 // a length of 1024 or more is reported as wrong, so such a length is only kept within the arrays here.
-#[derive(Drop)]
+#[derive(Clone, Copy)]
 struct Sizes {
     width: u64,
     times: usize,
@@ -128,7 +128,7 @@ fn told(answer: Planned, seen: Seen, letters: [u8; 1024]) -> Outcome {
     }
 }
 
-#[derive(Drop)]
+#[derive(Clone, Copy)]
 struct Seen {
     // A number that changes with any time and its place.
     digest: u64,

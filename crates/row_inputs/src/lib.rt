@@ -1,5 +1,7 @@
 // What a case hands to the row operation, made from a few numbers: by kind f for a row with a faulty
 // tile, and else for a call.
+#![tactic(auto)]
+
 ghost use Rattle.std.specs.Prelude.{◌≡◌, ◌<◌, ◌^◌, length};
 
 use cases::Numbers;

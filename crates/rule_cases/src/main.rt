@@ -1,33 +1,37 @@
 // Runs the cases of tiles, clocks and settings (§14.1 to §14.3), tiles at each tie between two letters
 // (§E3.1), clocks with a phase (§E4.1), and a tile or settings for each number, through the operations, as
 // the file `stdin` lists them. Each line says what is asked for and whether the operation answered that.
-use bytes::scan::find;
-use cases::Numbers;
-use libc::STDIN_FILENO;
+#![tactic(auto)]
+
+use cases::{Numbers, find};
 use rule::clock::Clock;
 use settings::{Checked, Settings};
+use std::io;
+use std::io::{Read, Write};
 use tile::{Forwarded, Stamps};
 
-fn main() {
-    let mut buffer = io::large_buffer();
-    let n = io::read_full(STDIN_FILENO, &mut buffer);
-    run(&buffer[..n]);
+fn main(rt: HostRuntime) -> io::Result<()> {
+    let mut text = Vec::new(rt.alloc());
+    rt.reader().read_to_end(&mut text)?;
+    run(&mut io::writer(&rt), &text)
 }
 
-fn run(text: &[u8]) {
+fn run(out: &mut impl Write, text: &[u8]) -> io::Result<()> {
     let mut at = 0;
     while at < text.len() {
-        let end = find(text, at, text.len(), b'\n');
-        case(&text[at..end]);
+        let end = find(text, at, b'\n');
+        case(out, &text[at..end])?;
         at = end + 1;
     }
+    Ok(())
 }
 
-fn case(line: &[u8]) {
+fn case(out: &mut impl Write, line: &[u8]) -> io::Result<()> {
     let case = cases::read(line);
     if case.kind != b'#' {
-        cases::report(line, right(case.kind, case.count, case.numbers));
+        return cases::report(out, line, right(case.kind, case.count, case.numbers));
     }
+    Ok(())
 }
 
 // Whether the operation answers what a case says.
@@ -122,7 +126,7 @@ fn signed(bits: u64) -> i64 {
 }
 
 // What a tile forwards, as a case gives it.
-#[derive(Drop)]
+#[derive(Clone, Copy)]
 struct Answer {
     kind: u8,
     first: i64,

@@ -2,31 +2,35 @@
 // for each way of being open or turned away, as the file `stdin` lists them. Each line says what the
 // requirements give, a closed seam's as the bits of the midpoint and of the half gap, and whether
 // the operation answered that.
-use bytes::scan::find;
-use cases::Numbers;
-use libc::STDIN_FILENO;
-use seam::{Seam, Side};
+#![tactic(auto)]
 
-fn main() {
-    let mut buffer = io::large_buffer();
-    let n = io::read_full(STDIN_FILENO, &mut buffer);
-    run(&buffer[..n]);
+use cases::{Numbers, find};
+use seam::{Seam, Side};
+use std::io;
+use std::io::{Read, Write};
+
+fn main(rt: HostRuntime) -> io::Result<()> {
+    let mut text = Vec::new(rt.alloc());
+    rt.reader().read_to_end(&mut text)?;
+    run(&mut io::writer(&rt), &text)
 }
 
-fn run(text: &[u8]) {
+fn run(out: &mut impl Write, text: &[u8]) -> io::Result<()> {
     let mut at = 0;
     while at < text.len() {
-        let end = find(text, at, text.len(), b'\n');
-        case(&text[at..end]);
+        let end = find(text, at, b'\n');
+        case(out, &text[at..end])?;
         at = end + 1;
     }
+    Ok(())
 }
 
-fn case(line: &[u8]) {
+fn case(out: &mut impl Write, line: &[u8]) -> io::Result<()> {
     let case = cases::read(line);
     if case.kind != b'#' {
-        cases::report(line, right(case.kind, case.count, case.numbers));
+        return cases::report(out, line, right(case.kind, case.count, case.numbers));
     }
+    Ok(())
 }
 
 // Whether the operation answers what a case says.
@@ -36,7 +40,7 @@ fn right(kind: u8, count: usize, n: Numbers) -> bool {
 }
 
 // A seam as a case gives it.
-#[derive(Drop)]
+#[derive(Clone, Copy)]
 struct Answer {
     kind: u8,
     first: u64,

@@ -1,7 +1,9 @@
 // A run over a wall file, between two of its steps: what is read and not yet taken, and text not yet handed over.
 //
-// No contract can say which bytes a system call moves. They come in by `window::take_in` and go out by `hand_over`,
-// and nowhere else; these two are the edge of the proof.
+// No contract can say which bytes a reader and a writer of the system move. They come in by `window::take_in` and go out by
+// `hand_over`, and nowhere else; these two are the edge of the proof.
+#![tactic(auto)]
+
 ghost use Rattle.std.specs.Prelude.{◌≡◌, ◌⊎◌, ◌≤◌, length, take, drop};
 ghost use Rattle.stages.specs.Fit.{due_of};
 ghost use Rattle.lines.specs.Row.{step_room};
@@ -9,10 +11,11 @@ ghost use Rattle.stages.specs.declared.Wall.TheVariants.{Over};
 ghost use Rattle.stream.specs.State.{Starts, Between, made_ready, part_end, stepped, finished};
 
 use stages::Wall;
+use std::io::{ErrorKind, Read, Write};
 use window::{Reading, Window};
 
 // How a run ended.
-#[derive(Drop)]
+#[derive(Clone, Copy)]
 pub enum Ended {
     // The file has ended, or is turned away, and the text is handed over.
     Done,
@@ -23,7 +26,7 @@ pub enum Ended {
 }
 
 // A run between two steps.
-#[derive(Drop)]
+#[derive(Clone, Copy)]
 pub struct State {
     pub wall: Wall,
     pub window: Window,
@@ -32,7 +35,7 @@ pub struct State {
 }
 
 // How a run ended and where: at its last state, or where the turn began whose read or write failed.
-#[derive(Drop)]
+#[derive(Clone, Copy)]
 pub struct Outcome {
     pub ended: Ended,
     pub state: State,
@@ -90,15 +93,15 @@ impl State {
     }
 }
 
-#[derive(Drop)]
+#[derive(Clone, Copy)]
 pub enum Turn {
     On(State),
     Stop(Ended),
 }
 
-// Hands the text that is due to the system, all of it, and answers how much is still due: none, or all where a write
+// Hands the text that is due to the writer, all of it, and answers how much is still due: none, or all where a write
 // failed or took nothing.
-fn hand_over(to: i32, text: &[u8], state: State, output: &[u8]) -> usize
+fn hand_over<W: Write>(to: &mut W, text: &[u8], state: State, output: &[u8]) -> usize
     requires { text.now ≡ take state.text output.now }
     ensures { (result ≡ 0) ⊎ (result ≡ length text.now) }
 {
@@ -113,28 +116,27 @@ fn hand_over(to: i32, text: &[u8], state: State, output: &[u8]) -> usize
     0
 }
 
-// The one write to the system, of the text from `done` on; answers how many bytes it took, none where it failed. One
-// that a signal interrupts is taken up again.
-fn write_some(to: i32, rest: &[u8], text: &[u8], done: usize) -> usize
+// The one write, of the text from `done` on; answers how many bytes it took, none where it failed. One that a signal
+// interrupts is taken up again.
+fn write_some<W: Write>(to: &mut W, rest: &[u8], text: &[u8], done: usize) -> usize
     requires { rest.now ≡ drop done text.now }
     ensures { result ≤ length rest.now }
 {
-    let mut tries = window::SIGNALS_MOST;
-    while tries != 0 {
-        let put = libc::write(to, rest);
-        if 0 <= put {
-            return io::count(put, rest);
+    for _ in 0..window::SIGNALS_MOST {
+        match to.write(rest) {
+            Ok(n) => return n,
+            Err(e) => {
+                if e.kind() != ErrorKind::Interrupted {
+                    return 0;
+                }
+            }
         }
-        if os::errno() != libc::EINTR {
-            return 0;
-        }
-        tries -= 1;
     }
     0
 }
 
 // Hands over the last text. Only here a run is done, and the wall is over.
-pub fn finish(to: i32, state: State, output: &[u8]) -> Outcome
+pub fn finish<W: Write>(to: &mut W, state: State, output: &[u8]) -> Outcome
     requires { (state.wall ≡ Over) × (state.text ≤ length output.now) }
     ensures { finished state result.ended result.state }
 {
@@ -160,7 +162,14 @@ pub fn finish(to: i32, state: State, output: &[u8]) -> Outcome
 
 // Has the due part in the window, and room for its text. Text is handed over where a read is to come, so that no row
 // waits for input that it does not need, and where the room is too small.
-pub fn ready(from: i32, to: i32, state: State, due: usize, input: &mut [u8], output: &[u8]) -> Turn
+pub fn ready<R: Read, W: Write>(
+    from: &mut R,
+    to: &mut W,
+    state: State,
+    due: usize,
+    input: &mut [u8],
+    output: &[u8],
+) -> Turn
     requires { Between state (length input.old) (length output.now) × (7734 ≤ length input.old) × (step_room ≤ length output.now) × (due ≡ due_of state.wall) × (due ≤ 7734) }
     ensures { made_ready state input.old (length output.now) result input.new }
 {

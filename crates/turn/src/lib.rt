@@ -1,4 +1,6 @@
 // A turn of a pass: the step of the part that is due, with its buffers.
+#![tactic(auto)]
+
 ghost use Rattle.std.specs.Prelude.{◌+◌, ◌≤◌, length, take};
 ghost use Rattle.lines.specs.Row.{step_room};
 ghost use Rattle.row.specs.Row.{pulses};
@@ -10,7 +12,7 @@ use asked_step::step;
 use stream::State;
 
 // A pass between two steps.
-#[derive(Drop)]
+#[derive(Clone, Copy)]
 pub struct Going {
     pub state: State,
     pub kept: u64,

@@ -1,37 +1,48 @@
 // Runs the wall files that its arguments name, and writes each name and what the file gives. The files, the
 // names and what must come out are made by the reference program (reference/README.md).
+#![tactic(auto)]
+
+use arguments::WORD_MOST;
 use asked::Asked;
-use libc::STDOUT_FILENO;
+use source::Noted;
+use std::env::Env;
+use std::io::Print;
 use stream::Ended;
 
-fn main() {
-    let count = os::arg_count();
+fn main(rt: HostRuntime) {
+    let count = arguments::word_count(&rt);
     let mut i = 1;
     while i < count {
-        case(i);
+        case(&rt, i);
         i += 1;
     }
 }
 
-fn case(i: usize) {
-    let mut buffer = io::buffer();
-    let n = os::arg(i, &mut buffer);
+fn case(rt: &HostRuntime, i: usize) {
+    let mut buffer = [0u8; WORD_MOST];
+    let n = match rt.arg(i, &mut buffer) {
+        Ok(n) => n,
+        Err(_) => 0,
+    };
     let name = &buffer[..n];
-    io::write_all(STDOUT_FILENO, name);
-    io::write_all(STDOUT_FILENO, b"\n");
-    let file = os::open_read(name);
-    if file < 0 {
-        os::fail(name);
-        return;
-    }
+    let _ = Print::write_all(rt, name);
+    let _ = Print::write_all(rt, b"\n");
+    let file = match source::open_read(rt, name) {
+        Ok(file) => file,
+        Err(e) => {
+            source::say_failed(rt, name, e);
+            return;
+        }
+    };
+    let mut from = Noted::new(file);
+    let mut to = Noted::new(rt.stdout());
     let mut tables = tables::space();
     tables::fill(&mut tables);
-    let outcome = pass::run(file, STDOUT_FILENO, Asked::Lines, &tables);
+    let outcome = pass::run(&mut from, &mut to, Asked::Lines, &tables);
     let ended = outcome.ended;
     match ended {
         Ended::Done => {}
-        Ended::ReadFailed => os::fail(name),
-        Ended::WriteFailed => os::fail(name),
+        Ended::ReadFailed => source::say_failed(rt, name, from.why()),
+        Ended::WriteFailed => source::say_failed(rt, name, to.why()),
     }
-    libc::close(file);
 }

@@ -1,8 +1,14 @@
 // The bytes that are read and not yet taken, as a window in the input buffer.
+#![tactic(auto)]
+
 ghost use Rattle.std.specs.Prelude.{◌≡◌, false, ◌+◌, ◌-◌, ◌≤◌, ◌<◌, min, length, take, drop};
+ghost use Rattle.std.specs.Io.{ReadsAtMost};
 ghost use Rattle.window.specs.Window.{InBuffer, lacking, Placed, read_on, filled_up};
 
-#[derive(Drop)]
+use std::io;
+use std::io::{Error, ErrorKind, Read};
+
+#[derive(Clone, Copy)]
 pub struct Window {
     pub start: usize,
     pub end: usize,
@@ -10,7 +16,7 @@ pub struct Window {
     pub ended: bool,
 }
 
-#[derive(Drop)]
+#[derive(Clone, Copy)]
 pub enum Reading {
     Ready(Window),
     // A read failed.
@@ -44,7 +50,7 @@ impl Window {
 }
 
 // Reads until the due part is in the window or the input has ended; not at all where nothing is lacking.
-pub fn fill(from: i32, window: Window, due: usize, input: &mut [u8]) -> Reading
+pub fn fill<R: Read>(from: &mut R, window: Window, due: usize, input: &mut [u8]) -> Reading
     requires { InBuffer window (length input.old) × (due ≤ length input.old) }
     ensures idle { lacking window due ≡ false → (result ≡ Reading.Ready window) × (input.new ≡ input.old) }
     ensures filled { filled_up window due input.old result input.new }
@@ -88,7 +94,7 @@ fn to_front(input: &mut [u8], start: usize, count: usize)
 }
 
 // Reads behind the window, which has room, until the due part is there.
-fn read_part(from: i32, window: Window, due: usize, input: &mut [u8]) -> Reading
+fn read_part<R: Read>(from: &mut R, window: Window, due: usize, input: &mut [u8]) -> Reading
     requires { InBuffer window (length input.old) × (window.start + due ≤ length input.old) }
     ensures { filled_up window due input.old result input.new }
 {
@@ -106,40 +112,39 @@ fn read_part(from: i32, window: Window, due: usize, input: &mut [u8]) -> Reading
     Reading::Ready(window)
 }
 
-// Takes bytes in from the system, behind the window; the edge of the proof on that side. With room there, no byte
+// Takes bytes in from the reader, behind the window; the edge of the proof on that side. With room there, no byte
 // means that the input has ended.
-fn take_in(from: i32, window: Window, input: &mut [u8]) -> Reading
+fn take_in<R: Read>(from: &mut R, window: Window, input: &mut [u8]) -> Reading
     requires { (window.start ≤ window.end) × (window.end < length input.old) }
     ensures { read_on window input.old result input.new }
 {
     let end = window.end;
-    let got = read_some(from, &mut input[end..]);
-    if got < 0 {
-        return Reading::Failed;
+    match read_some(from, &mut input[end..]) {
+        Ok(n) => Reading::Ready(Window {
+            start: window.start,
+            end: end + n,
+            ended: n == 0,
+        }),
+        Err(_) => Reading::Failed,
     }
-    let n = io::count(got, &input[end..]);
-    Reading::Ready(Window {
-        start: window.start,
-        end: end + n,
-        ended: n == 0,
-    })
 }
 
 // So many signals in a row, without a byte between them, count as a failure: a loop has to end.
 pub const SIGNALS_MOST: u64 = 1_000_000_000_000;
 
-// The one read of the system. One that a signal interrupts is taken up again.
-fn read_some(from: i32, room: &mut [u8]) -> isize {
-    let mut tries = SIGNALS_MOST;
-    while tries != 0 {
-        let got = libc::read(from, room);
-        if 0 <= got {
-            return got;
+// The one read. One that a signal interrupts is taken up again.
+fn read_some<R: Read>(from: &mut R, room: &mut [u8]) -> io::Result<usize>
+    ensures { ReadsAtMost result room.new }
+{
+    for _ in 0..SIGNALS_MOST {
+        match from.read(room) {
+            Ok(n) => return Ok(n),
+            Err(e) => {
+                if e.kind() != ErrorKind::Interrupted {
+                    return Err(e);
+                }
+            }
         }
-        if os::errno() != libc::EINTR {
-            return got;
-        }
-        tries -= 1;
     }
-    -1
+    Err(Error::from(ErrorKind::Interrupted))
 }

@@ -5,7 +5,8 @@ use mathlib.Core.List.{List, [], ◌∷◌}
 use Prim.Native.Nat.{ℕ, zero, suc, ◌+◌, ◌*◌, ◌-◌, ◌≤◌, ◌<◌}
 use native.Mathlib.Omega.{arith}
 use borrow.Author.Tests.{eq-eqb, ne_eqb, le-leb, lt-leb, lt-ltb, le-ltb, leb-true, ltb-true}
-use lib.Dec.{leb, ltb}
+use lib.Dec.{eqb, leb, ltb}
+use lib.Pointwise.{pointwise}
 use lib.ListN.{length, get_or, drop, drop_of_length-le}
 use lib.Seq.{drop-cons}
 use Rattle.settings.proofs.Laws.Cases.{by_equal}
@@ -113,6 +114,18 @@ module _ (word : List ℕ) where
   pub within : (least largest i n : ℕ) → SpeltTo word i n → length word ≤ i → least ≤ n → n ≤ largest → Number n ≡ number_word least largest (spelt 10 word)
   unfolding number_word
   within least largest i n s j k m = rw (all_spelt i n s j, le-leb least n k, le-leb n largest m)
+
+-- two words that are the same byte by byte
+same_each : (a b : List ℕ) → same a b ≡ pointwise eqb a b
+unfolding same
+same_each [] [] = refl
+same_each [] (y ∷ b) = refl
+same_each (x ∷ a) [] = refl
+same_each (x ∷ a) (y ∷ b) = ap (λ (r : Bool). eqb x y && r) (same_each a b)
+
+-- a test of each byte tells whether two words are the same
+pub same_bytes : (a b c : List ℕ) (r t : Bool) → c ≡ b → r ≡ pointwise eqb a c → r ≡ t → same a b ≡ t
+same_bytes a b c r t d e f = same_each a b ∙ ap (pointwise eqb a) (sym d) ∙ sym e ∙ f
 
 -- a test that tells whether two words are equal tells whether they are the same
 itself : (w : List ℕ) → same w w ≡ true
