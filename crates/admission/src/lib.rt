@@ -1,5 +1,7 @@
 // When a row call is turned away. Each check goes over the whole row, so that the first number that
 // applies anywhere is the one given: 21 to 26, with 53 before 26.
+#![tactic(auto)]
+
 ghost use Rattle.std.specs.Prelude.{◌≡◌, true, cond, ◌+◌, ◌*◌, ◌/◌, ◌≤◌, ◌<◌, length};
 ghost use Rattle.std.specs.Int.Count.{ones};
 ghost use Rattle.settings.specs.Refusal.{any_below};

@@ -1,4 +1,6 @@
 // What is asked of a wall file, and what a step tells of it.
+#![tactic(auto)]
+
 ghost use Rattle.std.specs.Prelude.{◌≡◌, true, ◌+◌, ◌≤◌, length, take};
 ghost use Rattle.lines.specs.Row.{step_room};
 ghost use Rattle.row.specs.Row.{pulses};
@@ -13,7 +15,7 @@ use stages::Wall;
 use steps::Taken;
 use told::Told;
 
-#[derive(Drop)]
+#[derive(Clone, Copy)]
 pub enum Asked {
     // The lines of every row.
     Lines,

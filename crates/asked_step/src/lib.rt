@@ -1,4 +1,6 @@
 // A step of a wall file, and what it tells by what is asked.
+#![tactic(auto)]
+
 ghost use Rattle.std.specs.Prelude.{◌≡◌, ◌+◌, ◌≤◌, length, take};
 ghost use Rattle.lines.specs.Row.{step_room};
 ghost use Rattle.row.specs.Row.{pulses};
@@ -31,7 +33,7 @@ pub fn step(
     ensures { Tells (told_of asked (take 16 given.now)) wall kept part.now (pulses row.old letters.old) out.old at result (pulses row.new letters.new) out.new }
 {
     copy(row, last);
-    bytes::copy(letters, last_letters);
+    last_letters.copy_from_slice(letters);
     match steps::take_in(wall, part, last, links, row, letters) {
         steps::Answer::Taken(taken) => tell(
             asked,

@@ -6,7 +6,7 @@ use Rattle.settings.specs.declared.Settings.{Settings}
 use Rattle.senders.proofs.Cases.{senders_computed}
 use Rattle.senders.specs.Senders.{last}
 use Rattle.board.specs.Stand.{stand, closing, told, is_running}
-use Rattle.board.specs.State.{looked_at, reached, fits, runs, start_tests, start_refusal, fresh, started, hears, pulsed, at, shut, shut_many, answered, closed, closed_many}
+use Rattle.board.specs.State.{looked_at, reached, fits, runs, start_tests, start_refusal, fresh, started, hears, pulsed, at as at_stand, shut, shut_many, answered, closed, closed_many}
 use Rattle.board.specs.Closing.{end_of, closings, jumped}
 use Rattle.board.specs.Cases.{wall, drifting, StartCases, state, FreshCase, RefusedCase, Arrival, ◌at◌, arrives, arrive, PulsesAt, InEach, TileCases, ThreeCases, LateStartCase, UnheardCases, RepeatCases, ToldCases, SenderCases, OverCases, late, LastCases}
 use Rattle.board.specs.declared.Board.{Board}
@@ -15,7 +15,7 @@ use Rattle.board.proofs.Laws.Closing.{jumps}
 
 -- what a state is computed by; the crates above go on from it
 unfoldable pub board_computed : Unit {0}
-unfolding senders_computed stand closing told is_running looked_at reached fits runs start_tests start_refusal fresh started hears pulsed at answered
+unfolding senders_computed stand closing told is_running looked_at reached fits runs start_tests start_refusal fresh started hears pulsed at_stand answered
 board_computed = tt
 
 -- with many closes at once

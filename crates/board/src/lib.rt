@@ -1,5 +1,7 @@
 // The tile as it runs: what a tile knows, event by event, on its own clock. `start`, `pulse`, `close` and `close_many` are
 // the operations: each answers every input in constant time, and takes and gives the state by value.
+#![tactic(auto)]
+
 pub mod stand;
 
 ghost use Rattle.std.specs.Prelude.{◌≡◌};
@@ -10,21 +12,21 @@ use senders::{LAST, Senders};
 use settings::Settings;
 use stand::{Answer, Stage, Stand, closings};
 
-#[derive(Drop)]
+#[derive(Clone, Copy)]
 pub struct Board {
     pub settings: Settings,
     pub senders: Senders,
     pub stand: Stand,
 }
 
-#[derive(Drop)]
+#[derive(Clone, Copy)]
 pub struct Started {
     // 0, or 1 to 9, 11 or 12; the state then takes no event.
     pub number: u32,
     pub board: Board,
 }
 
-#[derive(Drop)]
+#[derive(Clone, Copy)]
 pub struct Heard {
     // 0, or 54; the state is then what it was.
     pub number: u32,
@@ -33,7 +35,7 @@ pub struct Heard {
     pub board: Board,
 }
 
-#[derive(Drop)]
+#[derive(Clone, Copy)]
 pub struct Closed {
     pub answer: Answer,
     pub board: Board,

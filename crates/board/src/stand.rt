@@ -7,14 +7,14 @@ ghost use Rattle.board.specs.Closing.{closings};
 use senders::LAST;
 use settings::rounding::{larger, smaller};
 
-#[derive(Drop)]
+#[derive(Clone, Copy)]
 pub struct Stand {
     // The open reading, or the one whose close ended the run.
     pub reading: u64,
     pub stage: Stage,
 }
 
-#[derive(Drop)]
+#[derive(Clone, Copy)]
 pub enum Stage {
     Running,
     // It has pulsed.
@@ -23,7 +23,7 @@ pub enum Stage {
     Ended,
 }
 
-#[derive(Drop)]
+#[derive(Clone, Copy)]
 pub enum Answer {
     // It pulses now.
     Pulsed,

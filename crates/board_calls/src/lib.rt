@@ -1,5 +1,7 @@
 // The tile as it runs, for C and Rust: the state is the words of `polzaintu_board` in bindings/c/polzaintu.h, and is
 // written where a call moves it. A refusal leaves everything as it was.
+#![tactic(auto)]
+
 ghost use Rattle.std.specs.Prelude.{◌≡◌};
 ghost use Rattle.layout.specs.Words.{settings_from};
 ghost use Rattle.board_calls.specs.Words.{stage_in, stage_word, answer_word, senders_in, tile_in, tile_words, fits_in};

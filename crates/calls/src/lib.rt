@@ -1,5 +1,7 @@
 // What a call writes to what it is lent, by the operation's answer, and the number that it answers. A refusal
 // leaves everything as it was.
+#![tactic(auto)]
+
 ghost use Rattle.std.specs.Prelude.{◌≡◌, get_or};
 ghost use Rattle.tile.specs.Tile.{number_of as Tile·number-of};
 ghost use Rattle.row.specs.Row.{number_of as Row·number-of};

@@ -1,5 +1,7 @@
 // Where a tile's predecessors and links stand. The predecessors of a tile are three or four
 // adjacent columns: three, and one more where the column is the third from an end.
+#![tactic(auto)]
+
 ghost use Rattle.std.specs.Prelude.{◌≡◌, true, ◌+◌, ◌≤◌, ◌<◌, ◌/◌, length};
 ghost use Rattle.columns.specs.Columns.{links_before};
 ghost use Rattle.columns.specs.Window.{first_sender, four_senders};

@@ -1,4 +1,6 @@
 // What the fields hold.
+#![tactic(auto)]
+
 ghost use Rattle.std.specs.Prelude.{◌≡◌, true, ◌+◌, ◌*◌, ◌≤◌, ◌<◌, length};
 ghost use Rattle.settings.specs.Refusal.{any_below};
 ghost use Rattle.settings.specs.Settings.{checked};

@@ -1,5 +1,7 @@
 // The tile as it runs, with the repeats of each sender counted, which tells which cable chatters. The counts stand beside the tile of crate
 // board: each operation is that one's, and a count changes nothing but itself.
+#![tactic(auto)]
+
 ghost use Rattle.std.specs.Prelude.{◌≡◌, ◌<◌};
 ghost use Rattle.counted.specs.State.{raised, started, pulsed, closed, closed_many};
 
@@ -8,7 +10,7 @@ use board::stand::Answer;
 use settings::Settings;
 use settings::rounding::smaller;
 
-#[derive(Drop)]
+#[derive(Clone, Copy)]
 pub struct Counted {
     pub board: Board,
     // The repeats of own and of the neighbours, up to 65,535 each. Places past the count stay 0.
@@ -18,21 +20,21 @@ pub struct Counted {
 // Where a count stays.
 pub const MOST: u64 = 65_535;
 
-#[derive(Drop)]
+#[derive(Clone, Copy)]
 pub struct Started {
     // 0, or 1 to 9, 11 or 12; the tile then takes no event.
     pub number: u32,
     pub tile: Counted,
 }
 
-#[derive(Drop)]
+#[derive(Clone, Copy)]
 pub struct Heard {
     // 0, or 54; the tile is then what it was.
     pub number: u32,
     pub tile: Counted,
 }
 
-#[derive(Drop)]
+#[derive(Clone, Copy)]
 pub struct Closed {
     pub answer: Answer,
     pub tile: Counted,

@@ -1,4 +1,4 @@
-// Numbers in a wall file are big_endian.
+// Numbers in a wall file are big-endian.
 ghost use Rattle.std.specs.Prelude.{◌≡◌, ◌+◌, ◌≤◌, ◌<◌, length};
 ghost use Rattle.fields.specs.Bytes.{big_endian};
 

@@ -1,4 +1,6 @@
 // A field of a wall file: tag, length and body.
+#![tactic(auto)]
+
 pub mod bytes;
 
 ghost use Rattle.std.specs.Prelude.{◌≡◌};

@@ -1,5 +1,7 @@
 // What a step brought where the first wide seam is asked for: that seam, a refusal, at the end of the file that there is none, or
 // nothing yet.
+#![tactic(auto)]
+
 ghost use Rattle.std.specs.Prelude.{◌≡◌, true, [], ◌+◌, ◌≤◌, length};
 ghost use Rattle.lines.specs.Row.{step_room};
 ghost use Rattle.row.specs.Row.{pulses};
@@ -18,7 +20,7 @@ use wide::First;
 use wide_rows::first_wide;
 
 // What an accepted part brought: the first wide seam of the row that is then shown, that there is none in all of the file, or nothing.
-#[derive(Drop)]
+#[derive(Clone, Copy)]
 pub enum Brought {
     Wide {
         row: u64,

@@ -1,10 +1,10 @@
 -- A step that is lent the last row's own place to write, and what is then known of both rows. Assumes nothing.
 use mathlib.Core.Path.{◌≡◌, sym, ◌∙◌, ap}
-use mathlib.Core.List.{List, ◌++◌, append-nil}
+use mathlib.Core.List.{List, ◌++◌}
 use Prim.Native.Nat.{ℕ, ◌≤◌}
 use native.Mathlib.Omega.{arith}
-use lib.ListN.{length, take, drop, length-append}
-use lib.Seq.{take-length, drop-length, take_at}
+use lib.ListN.{length, drop, length-append}
+use lib.Seq.{take_at}
 use Rattle.settings.proofs.Laws.Cases.{by_equal}
 use Rattle.row.specs.Row.{Pulses, pulses, cut}
 use Rattle.stages.specs.declared.Wall.{Wall}
@@ -14,10 +14,6 @@ use Rattle.steps.specs.Take.{taken_of, step_from, next_row, StepTaken}
 use Rattle.steps.specs.declared.Taken.{Taken}
 use Rattle.in_place.specs.Replaced.{Replaces}
 use Rattle.steps.proofs.Laws.Answer.{step_goes, step_away, row_goes_on, row_stays}
-
--- letters that are copied over as many
-pub copied : (from to : List ℕ) {after : List ℕ} → length from ≡ length to → after ≡ take (length from) from ++ drop (length from) to → after ≡ from
-copied from to e is = is ∙ rw (take-length from, e, drop-length to) (append-nil from)
 
 -- a step that is lent the last row's place leaves the row of the definition there
 row_in_place : (x : Wall) (row : Pulses) (bs : List ℕ) → next_row x row.times bs row ≡ (step_of x row bs).row

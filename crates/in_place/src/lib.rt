@@ -1,4 +1,6 @@
 // A step that is taken in the place of the last row: the next row is written there, and the last is kept beside it.
+#![tactic(auto)]
+
 ghost use Rattle.std.specs.Prelude.{◌≡◌, true, ◌≤◌, length};
 ghost use Rattle.row.specs.Row.{pulses};
 ghost use Rattle.stages.specs.Fit.{wall_fits};
@@ -23,7 +25,7 @@ pub fn replace(
     ensures { Replaces wall part.now (pulses row.old letters.old) result (pulses last.new last_letters.new) (pulses row.new letters.new) }
 {
     copy(row, last);
-    bytes::copy(letters, last_letters);
+    last_letters.copy_from_slice(letters);
     take_fit(wall, part, last, links, row, letters)
 }
 

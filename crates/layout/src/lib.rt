@@ -1,4 +1,6 @@
 // The structs of the C header as words, in the order of its fields.
+#![tactic(auto)]
+
 ghost use Rattle.std.specs.Prelude.{◌≡◌, ◌≤◌};
 ghost use Rattle.layout.specs.Words.{settings_from, at_most, stamp_in, stamps_in, side_word, place_in, staged, wall_in, place_words, wall_words, refused_words, refused_number, takes};
 

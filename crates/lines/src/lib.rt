@@ -1,5 +1,7 @@
 // The printed lines: how they are defined, in specs/, and plain writers of bytes, words and numbers. Each
 // writer takes the place to write at in a lent buffer and answers where its text ends.
+#![tactic(auto)]
+
 ghost use Rattle.std.specs.Prelude.{◌≡◌, [], ◌∷◌, ◌+◌, ◌*◌, ◌≤◌, ◌<◌, length};
 ghost use Rattle.lines.specs.Number.{glyph as Number·glyph, decimal as Number·decimal};
 ghost use Rattle.lines.specs.Line.{space, refused_line, line_text};

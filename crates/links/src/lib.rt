@@ -1,4 +1,6 @@
 // When a row call is turned away for a link value.
+#![tactic(auto)]
+
 ghost use Rattle.std.specs.Prelude.{◌≡◌, ◌+◌, ◌-◌, ◌*◌, ◌<◌, ◌≤◌, min, true, false, length};
 ghost use Rattle.settings.specs.Refusal.{outside, any_below};
 ghost use Rattle.settings.specs.Settings.{settings_refusal};

@@ -5,7 +5,7 @@ ghost use Rattle.places.specs.Links.{heard_at, link_of};
 use columns::{first_link, first_sender, four_senders};
 use settings::Settings;
 
-#[derive(Drop)]
+#[derive(Clone, Copy)]
 pub enum Link {
     At(u64),
     // No tile of the row, or one that does not hear the sender.

@@ -5,7 +5,7 @@ ghost use Rattle.places.specs.Marks.{mark_of};
 use columns::marked;
 use settings::Settings;
 
-#[derive(Drop)]
+#[derive(Clone, Copy)]
 pub enum Mark {
     // Whether the tile is faulty.
     Is(bool),

@@ -7,7 +7,7 @@ use columns::marked;
 use seam::Seam;
 use settings::Settings;
 
-#[derive(Drop)]
+#[derive(Clone, Copy)]
 pub enum Columns {
     Of { left: u64, right: u64 },
     // No seam of the row.
@@ -16,7 +16,7 @@ pub enum Columns {
     Refused(u32),
 }
 
-#[derive(Drop)]
+#[derive(Clone, Copy)]
 pub enum RowSeam {
     Of { left: u64, right: u64, seam: Seam },
     // No seam of the row.

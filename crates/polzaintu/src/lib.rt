@@ -1,6 +1,8 @@
 // The operations for C and for Rust, as bindings/c/polzaintu.h declares them. A struct of the header is an
 // array of words here. The answer is the refusal's number, or 0; what is lent to be written then holds what
 // it held.
+#![tactic(auto)]
+
 ghost use Rattle.std.specs.Prelude.{◌≡◌, length, replicate, get_or};
 ghost use Rattle.settings.specs.Settings.{settings_refusal};
 ghost use Rattle.tile.specs.Tile.{forwarded, number_of as Tile·number-of};

@@ -1,4 +1,6 @@
 // The pulse of one tile of an accepted row, and the letter of what fixed it.
+#![tactic(auto)]
+
 ghost use Rattle.std.specs.Prelude.{◌≡◌, ◌+◌, ◌≤◌, ◌<◌, min, max, length};
 ghost use Rattle.settings.specs.Settings.{step_of};
 ghost use Rattle.rule.specs.Clock.{Admitted};
@@ -19,7 +21,7 @@ use rule::letter::Letter;
 use settings::Settings;
 use settings::rounding::{larger, smaller};
 
-#[derive(Drop)]
+#[derive(Clone, Copy)]
 pub struct Pulsed {
     pub time: u64,
     pub letter: Letter,

@@ -1,5 +1,7 @@
 // How far one broken tile reaches: what a search has to cover. `widest_gap` gives B of a row, `reach`
 // the ticks and the columns so many rows later, `reach_in_row` those of a later row. Each answers every input.
+#![tactic(auto)]
+
 pub mod survey;
 
 ghost use Rattle.std.specs.Prelude.{◌≡◌, ◌≤◌, ◌<◌, length};
@@ -10,7 +12,7 @@ ghost use Rattle.reach.specs.Search.{gap_of, outside_wall, reach_of, reach_in_ro
 use settings::Settings;
 use settings::rounding::{larger, smaller};
 
-#[derive(Drop)]
+#[derive(Clone, Copy)]
 pub enum Gap {
     // B, the largest difference between neighbouring pulses of the row.
     Widest(u64),
@@ -19,14 +21,14 @@ pub enum Gap {
 }
 
 // In a later row no pulse differs by more ticks, and none before the first column or after the last.
-#[derive(Drop)]
+#[derive(Clone, Copy)]
 pub struct Range {
     pub ticks: u64,
     pub first: u64,
     pub last: u64,
 }
 
-#[derive(Drop)]
+#[derive(Clone, Copy)]
 pub enum Reached {
     Within(Range),
     // No later row of the wall, no column of it, or a gap that no row has.

@@ -7,7 +7,7 @@ use crate::{Gap, Reached, reach, widest_gap};
 use settings::Settings;
 use settings::rounding::{larger, less};
 
-#[derive(Drop)]
+#[derive(Clone, Copy)]
 pub enum Surveyed {
     // B of the row, and the largest reach with its own.
     Row { gap: u64, largest: u64 },

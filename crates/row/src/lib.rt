@@ -1,4 +1,6 @@
 // One row of pulses and their letters, worked out from the row before it.
+#![tactic(auto)]
+
 mod progress;
 
 ghost use Rattle.std.specs.Prelude.{◌≡◌, length};
@@ -8,7 +10,7 @@ ghost use Rattle.row.specs.Row.{planned, written, lettered};
 use crate::progress::{Progress, further};
 use settings::Settings;
 
-#[derive(Drop)]
+#[derive(Clone, Copy)]
 pub enum Planned {
     // The earliest and latest time of the row that was written.
     Row { earliest: u64, latest: u64 },

@@ -13,7 +13,7 @@ use rule::forwarding::SILENT;
 use settings::Settings;
 use settings::rounding::{larger, smaller};
 
-#[derive(Drop)]
+#[derive(Clone, Copy)]
 pub struct Progress {
     // The first column that is not yet written.
     pub next: usize,

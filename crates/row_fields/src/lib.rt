@@ -1,4 +1,6 @@
 // The two fields of a row, its marks and its tiles, and the row that they describe.
+#![tactic(auto)]
+
 ghost use Rattle.std.specs.Prelude.{◌≡◌, ◌+◌, ◌*◌, ◌≤◌, length};
 ghost use Rattle.contents.specs.Contents.{row_size};
 ghost use Rattle.row.specs.Row.{pulses};

@@ -6,9 +6,9 @@ use lib.IntN.{pos}
 use lib.ListN.{length, length-map}
 use native.Mathlib.Nat.{le_refl}
 use native.Mathlib.Omega.{arith}
-use Rattle.settings.specs.Settings.{step_of, checked}
+use Rattle.settings.specs.Settings.{step_of}
 use Rattle.rule.specs.Signed.{natural}
-use Rattle.rule.specs.Stamp.{Stamp, heard, ◌≼◌, in_order, ◌∈◌, here, there, earliest, latest, after, FromTo, within, none, more, AllButOne, this, later_on}
+use Rattle.rule.specs.Stamp.{Stamp, heard, silent, ◌≼◌, in_order, ◌∈◌, here, there, earliest, latest, after, FromTo, within, none, more, AllButOne, this, later_on}
 use Rattle.rule.specs.Closed.{closed_P}
 use Rattle.rule.specs.Pulse.{tile_P, tile_letter}
 use Rattle.rule.specs.Promises.{TickLeast, DLeast, RuleClosed, Tile, PExact, says_k, says_e, says_m, says_b, says_l, LetterSays, LetterGives, PMonotone, PShifts, own_free, neighbour_free, Envelope, BetweenTwo, ForwardBetween}
@@ -96,6 +96,7 @@ envelope s lo hi (heard o) (x ∷ xs) t (neighbour_free (within p q) r) =
     let k = limits s t.checked in
     let (a, i, b, c) = one_within t.two r in
     omega (arith, between_two s o a (x ∷ xs) t i, step_small s.unit s.drift k.unit.0 k.drift)
+envelope s lo hi silent (x ∷ xs) t (neighbour_free own r) = elim own [ ]
 
 pub forward_between : ForwardBetween
 unfolding ForwardBetween natural

@@ -1,7 +1,7 @@
 -- What is promised of clocks and the rule. Each statement is proved in proofs/Promises.antt, under its name in small
 -- letters. Assumes nothing.
 use Rattle.std.specs.Prelude.{◌≡◌, List, map, ℕ, ◌+◌, ◌-◌, ◌*◌, ◌≤◌, ◌<◌, min, max, ℤ, pos, ◌+ℤ◌, ◌-ℤ◌, length, ◌≤ℤ◌, ◌<ℤ◌}
-use Rattle.settings.specs.Settings.{step_of, settings_refusal, checked}
+use Rattle.settings.specs.Settings.{step_of, settings_refusal}
 use Rattle.rule.specs.Clock.{reads, first_tick}
 use Rattle.rule.specs.Signed.{natural}
 use Rattle.rule.specs.Stamp.{Stamp, heard, ◌≼◌, ◌≼*◌, ◌∈◌, earliest, latest, after, FromTo, All, AllButOne, unheard_of, unheard_in}

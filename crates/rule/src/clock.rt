@@ -5,7 +5,7 @@ ghost use Rattle.rule.specs.Clock.{Admitted, reads, first_tick};
 use settings::MILLION;
 use settings::rounding::up;
 
-#[derive(Drop)]
+#[derive(Clone, Copy)]
 pub struct Clock {
     // By how many parts per million it runs fast.
     pub drift: u64,

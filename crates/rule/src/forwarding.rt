@@ -30,7 +30,7 @@ fn middle(unit: u64, least: u64, most: u64) -> u64
 }
 
 // P, the stamp that a tile adopts, and what fixed it.
-#[derive(Drop)]
+#[derive(Clone, Copy)]
 pub struct Fixed {
     pub p: u64,
     pub letter: Letter,

@@ -2,7 +2,7 @@
 ghost use Rattle.std.specs.Prelude.{◌≡◌};
 ghost use Rattle.rule.specs.Letter.{byte_of};
 
-#[derive(Drop)]
+#[derive(Clone, Copy)]
 pub enum Letter {
     // k: P is own's stamp.
     Kept,

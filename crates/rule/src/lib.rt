@@ -2,6 +2,8 @@
 //
 // These are parts that the tile and the row share. They ask that their caller has checked the settings and
 // the stamps.
+#![tactic(auto)]
+
 pub mod clock;
 pub mod forwarding;
 pub mod letter;

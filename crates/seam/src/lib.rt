@@ -1,24 +1,26 @@
 // A seam: two neighbouring tiles of one row, closed with its midpoint and half gap, or open at a
 // faulty side. `join` is the operation: it answers every input.
+#![tactic(auto)]
+
 ghost use Rattle.std.specs.Prelude.{◌≡◌, ◌≤◌};
 ghost use Rattle.seam.specs.Seam.{latest, halves, late, seam_of};
 
 // The midpoint and the half gap of a pair of pulse times.
-#[derive(Drop)]
+#[derive(Clone, Copy)]
 pub struct Halves {
     pub midpoint: f64,
     pub half_gap: f64,
 }
 
 // Which tile is faulty.
-#[derive(Drop)]
+#[derive(Clone, Copy)]
 pub enum Side {
     Left,
     Right,
     Both,
 }
 
-#[derive(Drop)]
+#[derive(Clone, Copy)]
 pub enum Seam {
     Closed(Halves),
     Open(Side),

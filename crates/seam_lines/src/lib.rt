@@ -1,4 +1,6 @@
 // The lines of a row's seams.
+#![tactic(auto)]
+
 ghost use Rattle.std.specs.Prelude.{◌≡◌, [], ◌∷◌, ◌++◌, ◌+◌, ◌-◌, ◌*◌, ◌≤◌, ◌<◌, length, get_or};
 ghost use Rattle.columns.specs.Marks.{marked, mark_bytes};
 ghost use Rattle.seam.specs.Seam.{seam_of};

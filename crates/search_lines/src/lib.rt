@@ -1,4 +1,6 @@
 // The lines of a search: a word and numbers.
+#![tactic(auto)]
+
 ghost use Rattle.std.specs.Prelude.{◌+◌, ◌≤◌, length, take};
 ghost use Rattle.columns.specs.Wrote.{Wrote};
 ghost use Rattle.lines.specs.Row.{step_room};

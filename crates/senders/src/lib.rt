@@ -1,4 +1,6 @@
 // What a tile has heard from its senders, and when that makes it pulse.
+#![tactic(auto)]
+
 ghost use Rattle.std.specs.Prelude.{◌≡◌, true, ◌<◌};
 ghost use Rattle.settings.specs.Settings.{settings_refusal};
 ghost use Rattle.rule.specs.Stamp.{unheard_of, stamp_of, code_of, earliest, latest};
@@ -10,7 +12,7 @@ use rule::forwarding::SILENT;
 use settings::Settings;
 use settings::rounding::{larger, smaller};
 
-#[derive(Drop)]
+#[derive(Clone, Copy)]
 pub struct Senders {
     // How many neighbours there are: 2 or 3.
     pub count: u64,
@@ -22,7 +24,7 @@ pub struct Senders {
 pub const LAST: u64 = 4_398_046_511_103;
 
 // The earliest and the latest of the neighbours' stamps.
-#[derive(Drop)]
+#[derive(Clone, Copy)]
 struct Ends {
     least: u64,
     most: u64,

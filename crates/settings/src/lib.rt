@@ -1,4 +1,6 @@
 // A wall's settings. `Settings::new` hands a record out only where it keeps every limit.
+#![tactic(auto)]
+
 pub mod rounding;
 
 ghost use Rattle.std.specs.Prelude.{◌≡◌, ◌≤◌};
@@ -10,7 +12,7 @@ use crate::rounding::up;
 // Drifts are counted in millionths.
 pub const MILLION: u64 = 1_000_000;
 
-#[derive(Drop)]
+#[derive(Clone, Copy)]
 pub struct Settings {
     // W, the tiles of a row.
     pub width: u64,
@@ -28,7 +30,7 @@ pub struct Settings {
     pub unit: u64,
 }
 
-#[derive(Drop)]
+#[derive(Clone, Copy)]
 pub enum Checked {
     Passed(Settings),
     // 1 to 9.

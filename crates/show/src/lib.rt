@@ -1,4 +1,6 @@
 // The text of a step: the line of a refusal, or the lines of the row that is then shown.
+#![tactic(auto)]
+
 ghost use Rattle.std.specs.Prelude.{◌≡◌, true, ◌+◌, ◌≤◌, length};
 ghost use Rattle.columns.specs.Marks.{mark_bytes};
 ghost use Rattle.tables.specs.Word.{Tables};

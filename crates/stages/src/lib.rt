@@ -1,12 +1,14 @@
 // How far a wall file has been taken, and what is due next. `due` and `width` are operations: they answer
 // every input.
+#![tactic(auto)]
+
 ghost use Rattle.std.specs.Prelude.{◌≡◌, cond, ◌≤◌};
 ghost use Rattle.stages.specs.Fit.{passes, due_of, width_of, place_fits, wall_fits};
 
 use settings::Settings;
 
 // How far a file has been taken.
-#[derive(Drop)]
+#[derive(Clone, Copy)]
 pub struct Place {
     pub settings: Settings,
     // The last row accepted.
@@ -16,7 +18,7 @@ pub struct Place {
 }
 
 // What is due next.
-#[derive(Drop)]
+#[derive(Clone, Copy)]
 pub enum Wall {
     // The settings.
     New,

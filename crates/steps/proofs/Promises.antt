@@ -9,7 +9,6 @@ use Rattle.stages.specs.declared.Wall.TheVariants.{Over}
 use Rattle.steps.specs.Answer.{number_of, offset_of, wall_of, number_due, offset_due, wall_then}
 use Rattle.steps.specs.Promises.{TakeAnswered}
 use Rattle.steps.specs.Take.{taken, step_from, answer_of, row_after}
-use Rattle.steps.specs.declared.Answer.{Answer}
 use Rattle.steps.specs.declared.Answer.TheVariants as answer
 use Rattle.steps.proofs.Laws.Answer.{taken_goes, taken_gone, row_goes_on, row_stays}
 

@@ -1,5 +1,7 @@
 // A wall file, step by step. Each step is given the part of the file that is due and the row that the last
 // one left, writes the next row and answers the refusal, if any. `take` is an operation: it answers every input.
+#![tactic(auto)]
+
 mod row_step;
 pub mod rows;
 mod steps;
@@ -13,14 +15,14 @@ use stages::{Wall, fits};
 
 // The wall as a step leaves it. Where the file is turned away the number is not 0, and the offset is
 // that of the refusal.
-#[derive(Drop)]
+#[derive(Clone, Copy)]
 pub struct Taken {
     pub wall: Wall,
     pub number: u32,
     pub offset: u64,
 }
 
-#[derive(Drop)]
+#[derive(Clone, Copy)]
 pub enum Answer {
     Taken(Taken),
     // What was lent does not fit the wall; nothing has changed.
@@ -57,13 +59,7 @@ pub fn take_in(
     if !fits(wall, letters.len()) {
         return Answer::Unfit;
     }
-    match wall {
-        Wall::New => Answer::Taken(steps::settings(part)),
-        Wall::Start(place) => Answer::Taken(steps::start(place, part, next)),
-        Wall::Row(place) => Answer::Taken(row_step::row(place, part, row, links, next, letters)),
-        Wall::End(place) => Answer::Taken(steps::end(place, part)),
-        Wall::Over => Answer::Taken(steps::went_on(wall)),
-    }
+    Answer::Taken(take_fit(wall, part, row, links, next, letters))
 }
 
 // The same of rows that fit.

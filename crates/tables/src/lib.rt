@@ -1,5 +1,7 @@
 // Tables of words. A word is eight bytes of text as one number, the first byte lowest. The tables are
 // filled once, and lent to `row_lines`.
+#![tactic(auto)]
+
 ghost use Rattle.std.specs.Prelude.{◌≡◌, ◌+◌, ◌*◌, ◌≤◌, ◌<◌, length};
 ghost use Rattle.columns.specs.Columns.{table_from};
 ghost use Rattle.columns.specs.Wrote.{Wrote};

@@ -1,4 +1,6 @@
 // What a step brought: nothing yet, a row's B and reach, a faulty tile, a refusal, or the largest reach.
+#![tactic(auto)]
+
 ghost use Rattle.std.specs.Prelude.{◌≡◌, true, ◌+◌, ◌≤◌, length, take, []};
 ghost use Rattle.columns.specs.Marks.{mark_bytes};
 ghost use Rattle.steps.specs.Step.{step_of};

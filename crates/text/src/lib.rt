@@ -1,4 +1,6 @@
 // The lines of a row, written into a lent buffer: its tiles, then its seams.
+#![tactic(auto)]
+
 ghost use Rattle.std.specs.Prelude.{◌≡◌, ◌+◌, ◌≤◌, length};
 ghost use Rattle.columns.specs.Marks.{mark_bytes};
 ghost use Rattle.lines.specs.Row.{row_text, row_room};

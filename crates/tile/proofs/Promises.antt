@@ -3,7 +3,7 @@ use mathlib.Core.Path.{◌≡◌, sym, ◌∙◌, ap}
 use mathlib.Core.Option.{some}
 use Prim.Native.Nat.{ℕ}
 use native.Mathlib.Omega.{arith}
-use Rattle.settings.specs.Settings.{step_of, checked}
+use Rattle.settings.specs.Settings.{step_of}
 use Rattle.rule.specs.Stamp.{earlier, later, earliest, latest, latest_stamp}
 use Rattle.rule.specs.Signed.{natural}
 use Rattle.rule.specs.Forward.{P, correction}

@@ -1,4 +1,6 @@
 // One tile: P, the correction and the letter of what fixed P, from the stamps of its predecessors.
+#![tactic(auto)]
+
 ghost use Rattle.std.specs.Prelude.{◌≡◌, false, ◌≤◌, ◌<◌};
 ghost use Rattle.settings.specs.Settings.{settings_refusal, step_of};
 ghost use Rattle.rule.specs.Stamp.{stamp_of, code_of, earliest, latest};
@@ -10,7 +12,7 @@ use rule::letter::Letter;
 use settings::Settings;
 use settings::rounding::{larger, smaller};
 
-#[derive(Drop)]
+#[derive(Clone, Copy)]
 pub struct Stamps {
     // Own's stamp, then the neighbours'.
     pub at: [i64; 4],
@@ -20,7 +22,7 @@ pub struct Stamps {
     pub count: u32,
 }
 
-#[derive(Drop)]
+#[derive(Clone, Copy)]
 pub enum Forwarded {
     // P, own's stamp less P, and what fixed P.
     Corrected {

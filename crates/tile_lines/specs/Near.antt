@@ -1,5 +1,5 @@
 -- Times near each other, which have their first digits in common. Assumes nothing.
-use Rattle.std.specs.Prelude.{◌≡◌, ◌++◌, ℕ, ◌-◌, ◌^◌, ◌≤◌, ◌<◌, length, drop}
+use Rattle.std.specs.Prelude.{◌≡◌, ◌++◌, ℕ, ◌-◌, ◌^◌, ◌≤◌, ◌<◌, drop}
 use Rattle.lines.specs.Number.{decimal}
 use Rattle.tile_lines.specs.declared.near.Near.{Near}
 use Rattle.tables.specs.Word.{bytes, padded}

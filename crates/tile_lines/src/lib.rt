@@ -1,4 +1,6 @@
 // The lines of a row's tiles.
+#![tactic(auto)]
+
 mod near;
 
 ghost use Rattle.std.specs.Prelude.{◌≡◌, [], ◌∷◌, ◌⊎◌, ◌+◌, ◌*◌, ◌≤◌, ◌<◌, length};
@@ -22,7 +24,7 @@ use words::{eight_digits, put};
 const FAULTY: u64 = 18_446_744_073_709_551_615;
 
 // Where a line ends, and what served its time.
-#[derive(Drop)]
+#[derive(Clone, Copy)]
 struct Written {
     near: Near,
     end: usize,

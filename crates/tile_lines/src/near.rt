@@ -7,7 +7,7 @@ use tables::{short, short_length};
 
 // Of the times from `low` on, `span` of them, the first `length` digits stand in `word`. The last
 // `digits` are those of the time less `base`, of whose eight digits a shift drops the others.
-#[derive(Drop)]
+#[derive(Clone, Copy)]
 pub struct Near {
     pub low: u64,
     pub span: u64,

@@ -1,4 +1,6 @@
 // The planner's version, said once for the programs and the library.
+#![tactic(auto)]
+
 pub const MAJOR: u32 = 0;
 
 pub const MINOR: u32 = 8;

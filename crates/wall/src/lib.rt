@@ -1,5 +1,7 @@
 // A step of a wall file with its text: the lines of the row that is then shown, or of a refusal. `step` is an
 // operation: it answers every input.
+#![tactic(auto)]
+
 ghost use Rattle.std.specs.Prelude.{◌≡◌, ◌+◌, ◌≤◌, leb, length, true};
 ghost use Rattle.columns.specs.Wrote.{Wrote};
 ghost use Rattle.lines.specs.Row.{step_room};
@@ -17,13 +19,13 @@ use steps::Taken;
 use steps::rows::copy;
 
 // The wall as a step leaves it, and where the text ends.
-#[derive(Drop)]
+#[derive(Clone, Copy)]
 pub struct Went {
     pub wall: Wall,
     pub end: usize,
 }
 
-#[derive(Drop)]
+#[derive(Clone, Copy)]
 pub enum Answer {
     Went(Went),
     // What was lent does not fit the wall; nothing has changed.
@@ -127,7 +129,7 @@ fn replace(
         Wall::Start(_) => copy(next, row),
         Wall::Row(_) => {
             copy(next, row);
-            bytes::copy(next_letters, letters);
+            letters.copy_from_slice(next_letters);
         }
         Wall::End(_) => {}
         Wall::Over => {}

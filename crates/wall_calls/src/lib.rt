@@ -1,4 +1,6 @@
 // A step of a wall file, by the words of layout.
+#![tactic(auto)]
+
 ghost use Rattle.std.specs.Prelude.{◌≡◌};
 ghost use Rattle.row.specs.Row.{pulses};
 ghost use Rattle.wall_calls.specs.Answers.{step_answer, next_left, step_number, wall_left, offset_left};

@@ -1,5 +1,7 @@
 // The last waves of a seam for C and Rust: the state is the words of `Waves`, and is written where a call moves it. A
 // refusal leaves everything as it was.
+#![tactic(auto)]
+
 ghost use Rattle.std.specs.Prelude.{◌≡◌};
 ghost use Rattle.waves.specs.Wave.{wave};
 ghost use Rattle.wave_calls.specs.Answers.{start_number, start_left, wave_number, wave_left, wave_side, wave_halves, extremes_number, ask_number, extremes_half_ticks, extremes_ticks, half_ticks_left, ticks_left};

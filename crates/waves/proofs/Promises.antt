@@ -2,7 +2,7 @@
 use mathlib.Core.Path.{◌≡◌, refl, ◌∙◌, ap}
 use mathlib.Core.Bool.{Bool, true, false, cond}
 use mathlib.Core.List.{List, [], ◌∷◌, ◌++◌}
-use Prim.Native.Nat.{ℕ, suc, ◌+◌, ◌-◌, ◌^◌, ◌≤◌, ◌<◌}
+use Prim.Native.Nat.{ℕ, suc, ◌-◌, ◌^◌, ◌≤◌, ◌<◌}
 use native.Mathlib.Omega.{arith}
 use lib.IntN.{ℤ, pos, negsuc, nat_abs}
 use lib.ListN.{length, length-append}
@@ -18,7 +18,7 @@ use Rattle.seam.specs.declared.Seam.{Seam}
 use Rattle.seam.specs.declared.Seam.TheVariants as seam
 use Rattle.seam.proofs.Laws.{half_exact}
 use Rattle.waves.specs.Wave.{Wave, answer, is_refused, refused, gap_of, where_closed}
-use Rattle.waves.specs.Reading.{last, largest, smallest, half_gap, extremes}
+use Rattle.waves.specs.Reading.{last, half_gap, extremes}
 use Rattle.waves.specs.State.{fits, blank, started, put, word, handed, no_gap, signed, gaps_at, places, asked}
 use Rattle.waves.specs.Ends.{half_gap_at, ends_of, ToldWords, told}
 use Rattle.waves.specs.Program.{Call, Calls, done, hand_in, ask, Read, CallsRead, CallsFit}

@@ -15,7 +15,7 @@ pub data Call : Type 0 where
   hands_in : Wave → Seam → Call
   asks : Extremes → Call
 
--- §E1.5 calls from one state to another. A hand_in leaves the state that the next call is given; a question leaves the one that it was given. Of each
+-- §E1.5 calls from one state to another. A hand-in leaves the state that the next call is given; a question leaves the one that it was given. Of each
 -- call only what its operation ensures is known.
 pub data Calls : (from : Waves) → List Call → (to : Waves) → Type 0 where
   done : {s : Waves} → Calls s [] s
@@ -23,7 +23,7 @@ pub data Calls : (from : Waves) → List Call → (to : Waves) → Type 0 where
       Calls s (hands_in w r.seam ∷ cs) t
   ask : {s t : Waves} {cs : List Call} (a : Extremes) → a ≡ asked s → Calls s cs t → Calls s (asks a ∷ cs) t
 
--- §E1.5 each call is answered by a plain reading of the waves handed in before it: a hand_in by the seam, a question by the full reading
+-- §E1.5 each call is answered by a plain reading of the waves handed in before it: a hand-in by the seam, a question by the full reading
 unfoldable pub Read : (n : ℕ) → (before : List Wave) → List Call → Type 0
 Read n ws [] = Unit {0}
 Read n ws (hands_in w a ∷ cs) = (a ≡ answer w) × Read n (ws ++ w ∷ []) cs

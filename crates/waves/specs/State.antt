@@ -10,7 +10,6 @@ use Rattle.waves.specs.declared.Waves.{Waves}
 use Rattle.waves.specs.declared.Started.{Started}
 use Rattle.waves.specs.declared.HandedIn.{HandedIn}
 use Rattle.waves.specs.declared.Extremes.{Extremes}
-use Rattle.waves.specs.declared.Extremes.TheVariants.{Refused}
 
 -- §E1.6 n, in word 64
 unfoldable pub size : Waves → ℕ

@@ -6,7 +6,7 @@ use crate::Extremes;
 use crate::half_gap::{HalfGap, OPEN, OVER};
 use settings::rounding::{larger, smaller};
 
-#[derive(Drop)]
+#[derive(Clone, Copy)]
 pub struct Ends {
     // `OPEN` where there is no gap.
     pub largest: u64,

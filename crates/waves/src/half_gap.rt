@@ -5,7 +5,7 @@ ghost use Rattle.seam.specs.Seam.{latest};
 ghost use Rattle.waves.specs.State.{word_of, no_gap};
 ghost use Rattle.waves.specs.Ends.{half_gap_at};
 
-#[derive(Drop)]
+#[derive(Clone, Copy)]
 pub struct HalfGap {
     // Right less left, in half ticks.
     pub half_ticks: i64,

@@ -1,5 +1,7 @@
 // The last waves of one seam: their largest and smallest signed half gap. `start`, `hand_in` and `ask` are the
 // operations: each answers every input, and takes and gives the state by value.
+#![tactic(auto)]
+
 mod ends;
 pub mod half_gap;
 
@@ -14,25 +16,25 @@ use seam::Seam;
 
 // Words 0 to 63 are places: 0 for an open wave or none, otherwise the gap in ticks and 2^41. The first n of them are in
 // use. Word 64 is n, word 65 the place of the next wave, which is that of the oldest once n are held.
-#[derive(Drop)]
+#[derive(Clone, Copy)]
 pub struct Waves {
     pub words: [u64; 66],
 }
 
-#[derive(Drop)]
+#[derive(Clone, Copy)]
 pub struct Started {
     // 0, or 51; the state then has no place.
     pub number: u32,
     pub waves: Waves,
 }
 
-#[derive(Drop)]
+#[derive(Clone, Copy)]
 pub struct HandedIn {
     pub waves: Waves,
     pub seam: Seam,
 }
 
-#[derive(Drop)]
+#[derive(Clone, Copy)]
 pub enum Extremes {
     Of { largest: HalfGap, smallest: HalfGap },
     // 52.

@@ -1,5 +1,7 @@
 // The first wide seam of a row: in the order of the printed lines, the first that is closed and whose half gap
 // is over a limit. `first_wide` is an operation: it answers every input.
+#![tactic(auto)]
+
 ghost use Rattle.std.specs.Prelude.{◌≡◌, List, ℕ, ◌≤◌, ◌<◌, length};
 ghost use Rattle.columns.specs.Marks.{mark_bytes};
 ghost use Rattle.wide.specs.Wide.{if_over, are_narrow, seam_first, rest_first, row_first, first_wide};

@@ -6,7 +6,7 @@ ghost use Rattle.tables.specs.Word.{bytes, spaced};
 use tables::{short, short_length};
 
 // As a word, of which the first `length` bytes are the text.
-#[derive(Drop)]
+#[derive(Clone, Copy)]
 pub struct Head {
     pub word: u64,
     pub length: usize,

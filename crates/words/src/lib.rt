@@ -1,5 +1,7 @@
 // Text a word at a time. A word is eight bytes of text as one number, the first byte lowest; the tables hold
 // words of digits and columns.
+#![tactic(auto)]
+
 pub mod head;
 
 ghost use Rattle.std.specs.Prelude.{◌≡◌, [], ◌∷◌, ◌++◌, ◌+◌, ◌≤◌, ◌<◌, length};

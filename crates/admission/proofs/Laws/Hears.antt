@@ -9,7 +9,7 @@ use native.Mathlib.Nat.{add-zero}
 use native.Mathlib.Omega.{arith}
 use borrow.Author.Tests.{eqb-true}
 use Rattle.settings.proofs.Laws.Cases.{by_order, by_equal}
-use Rattle.columns.specs.Columns.{are_neighbours, columns_from, is_predecessor, predecessors, links_before, link_place}
+use Rattle.columns.specs.Columns.{are_neighbours, columns_from, is_predecessor, links_before, link_place}
 use Rattle.columns.specs.Marks.{marked, faulty_among}
 use Rattle.columns.specs.Window.{first_sender, four_senders}
 use Rattle.columns.proofs.Laws.Columns.{first_link_place, second_link_place, third_link_place, fourth_link_place, links_early, links_inner, links_late, four_yes}

@@ -12,7 +12,7 @@ use Rattle.settings.specs.Settings.{settings_refusal, step_of}
 use Rattle.settings.specs.declared.Settings.{Settings}
 use Rattle.settings.proofs.Laws.Cases.{by_order}
 use Rattle.settings.proofs.Laws.Settings.{limits, step_small}
-use Rattle.rule.specs.Stamp.{Stamp, heard, silent, ◌≼◌, in_order, ◌≼*◌, earliest, latest, FromTo, within, All, none, more, AllButOne, unheard_of, unheard_in}
+use Rattle.rule.specs.Stamp.{Stamp, heard, silent, ◌≼◌, in_order, last, ◌≼*◌, earliest, latest, FromTo, within, All, none, more, AllButOne, unheard_of, unheard_in}
 use Rattle.rule.specs.Closed.{closed_P}
 use Rattle.rule.specs.Pulse.{tile_P}
 use Rattle.rule.specs.Promises.{Tile, PMonotone, OneFree, own_free, neighbour_free, Envelope}
@@ -50,6 +50,7 @@ module _ (s : Settings) (checked : settings_refusal s ≡ 0) where
   own_silent : {lo hi : ℕ} {l m : Stamp} (a : ℕ) → l ≼ m → FromTo lo hi l → FromTo lo hi m → P (heard a) l m + s.hold < a → P silent l m ≡ P (heard a) l m
   unfolding closed_P
   own_silent a (in_order i) (within b c) (within d e) k = sym (own_late (limits s checked).unit.0 (step_of s) s.hold a i step_held k)
+  own_silent {lo = lo} {hi = hi} {l = l} a last _ x k = elim x [ ]
 
   own_beside : {lo hi : ℕ} {ns : List Stamp} (a : ℕ) → 2 ≤ length ns → All (FromTo lo hi) ns → P (heard a) (earliest ns) (latest ns) + s.hold < a →
       P silent (earliest ns) (latest ns) ≡ P (heard a) (earliest ns) (latest ns)

@@ -116,21 +116,35 @@ module _ {s : Settings} {n v : ℕ} (a : Accepted s n v) where
     step : (b : List Event) (e : Event) (es : List Event) {r : Run} → OnTime ((b ++ e ∷ []) ++ es) r → OnTime (b ++ e ∷ es) r
     step b e es {r} o = subst (λ (gs : List Event). OnTime gs r) (append_assoc b (e ∷ []) es) o
 
+    -- the reading after an event
+    pulse_by : (b : List Event) (k : ℕ) → v + closes b ≤ x → v + closes (b ++ pulse k ∷ []) ≤ x
+    unfolding closes
+    pulse_by b k i = omega (arith, closes_++ b (pulse k ∷ []))
+
+    close_by : (b : List Event) → v + closes b < x → v + closes (b ++ close ∷ []) ≤ x
+    unfolding closes
+    close_by b i = omega (arith, closes_++ b (close ∷ []))
+
+    past_by : (b es : List Event) → v + closes (b ++ close ∷ es) ≤ v + closes b → ⊥
+    unfolding closes
+    past_by b es i = omega (arith, closes_++ b (close ∷ es))
+
+    now : (b es : List Event) → v + closes b ≡ x → OnTime (b ++ close ∷ es) (run b Pulsed)
+    unfolding run
+    now b es q =
+        record {
+          before = λ k. let never : ⊥ = past_by b es (omega arith) in absurd never;
+          after = λ k. (refl, q);
+        }
+
     pub runs_on : (b es fs : List Event) → b ++ (es ++ fs) ≡ whole → v + closes b ≤ x → OnTime (b ++ es) (run_from s n v b es)
     unfolding run_from run unless_over last_after
     runs_on b [] fs e i =
         record { before = λ k. rw (append-nil b); after = λ k. let never : ⊥ = omega (arith, rw (append-nil b) at k) in absurd never }
     runs_on b (pulse k ∷ es) fs e i =
-        step b (pulse k) es (runs_on (b ++ pulse k ∷ []) es fs (append_assoc b (pulse k ∷ []) (es ++ fs) ∙ e) (unfold closes in omega (arith, closes_++ b (pulse k ∷ []))))
+        step b (pulse k) es (runs_on (b ++ pulse k ∷ []) es fs (append_assoc b (pulse k ∷ []) (es ++ fs) ∙ e) (pulse_by b k i))
     runs_on b (close ∷ es) fs e i =
         by_order x (v + closes b)
-        (λ k. rw (pulses b (es ++ fs) e (omega arith)) (now (omega arith)))
+        (λ k. rw (pulses b (es ++ fs) e (omega arith)) (now b es (omega arith)))
         (λ k. rw (waits b (close ∷ es ++ fs) e k, ne_eqb (v + closes b) last_reading (λ q. omega (arith, opens)))
-        (step b close es (runs_on (b ++ close ∷ []) es fs (append_assoc b (close ∷ []) (es ++ fs) ∙ e) (unfold closes in omega (arith, closes_++ b (close ∷ []))))))
-      where
-        now : v + closes b ≡ x → OnTime (b ++ close ∷ es) (run b Pulsed)
-        now q =
-            record {
-              before = λ k. let never : ⊥ = unfold closes in omega (arith, closes_++ b (close ∷ es)) in absurd never;
-              after = λ k. (refl, q);
-            }
+        (step b close es (runs_on (b ++ close ∷ []) es fs (append_assoc b (close ∷ []) (es ++ fs) ∙ e) (close_by b k))))

@@ -30,19 +30,29 @@ module _ (s : Settings) (n v : ℕ) where
       pick false false e = unfold unless_over in e
 
   -- what counts stays within the readings that open
+  pulse_inside : (b : List Event) (k : ℕ) → v + closes b ≤ last → v + closes (b ++ pulse k ∷ []) ≤ last
+  unfolding closes
+  pulse_inside b k i = omega (arith, closes_++ b (pulse k ∷ []))
+
+  close_inside : (b : List Event) → v + closes b < last → v + closes (b ++ close ∷ []) ≤ last
+  unfolding closes
+  close_inside b i = omega (arith, closes_++ b (close ∷ []))
+
+  not_last : (b : List Event) → v + closes b ≤ last → last_after v b ≡ false → v + closes b < last
+  unfolding last_after
+  not_last b i e = let ne = eqb-false (v + closes b) last e in omega arith
+
+  unless_inside : (p l : Bool) (b : List Event) (r : Run) → v + closes b ≤ last → (l ≡ false → v + closes b < last) →
+      (v + closes b < last → v + closes r.events ≤ last) → v + closes (unless_over p l b r).events ≤ last
+  unfolding unless_over run
+  unless_inside true l b r i f g = i
+  unless_inside false true b r i f g = i
+  unless_inside false false b r i f g = g (f refl)
+
   pub run_inside : (b es : List Event) → v + closes b ≤ last → v + closes (run_from s n v b es).events ≤ last
   unfolding run_from run
   run_inside b [] i = i
-  run_inside b (pulse k ∷ es) i = run_inside (b ++ pulse k ∷ []) es (unfold closes in omega (arith, closes_++ b (pulse k ∷ [])))
+  run_inside b (pulse k ∷ es) i = run_inside (b ++ pulse k ∷ []) es (pulse_inside b k i)
   run_inside b (close ∷ es) i =
-      pick (pulses_after s n v b) (last_after v b) (λ e. not_last e)
-      (λ k. run_inside (b ++ close ∷ []) es (unfold closes in omega (arith, closes_++ b (close ∷ []))))
-    where
-      not_last : last_after v b ≡ false → v + closes b < last
-      not_last e = let ne = eqb-false (v + closes b) last (unfold last_after in e) in omega arith
-
-      pick : (p l : Bool) → (l ≡ false → v + closes b < last) → (v + closes b < last → v + closes (run_from s n v (b ++ close ∷ []) es).events ≤ last) →
-          v + closes (unless_over p l b (run_from s n v (b ++ close ∷ []) es)).events ≤ last
-      pick true l f g = unfold unless_over run in i
-      pick false true f g = unfold unless_over run in i
-      pick false false f g = unfold unless_over in g (f refl)
+      unless_inside (pulses_after s n v b) (last_after v b) b (run_from s n v (b ++ close ∷ []) es) i (not_last b i)
+      (λ k. run_inside (b ++ close ∷ []) es (close_inside b k))

@@ -31,10 +31,19 @@ map_three f n e = rw e
 abbrev codes : (reading : ℕ) → List Event → ℕ → ℕ
 codes v es k = code_of (first_pulse v k es)
 
+stamp_fit : {x : Stamp} → By last x → stamp_fits (code_of x) ≡ true
+unfolding stamp_fits code_of
+stamp_fit (by {a = a} p) = rw (ne_eqb a silence (λ q. omega arith), le-leb a last p)
+stamp_fit unheard = refl
+
 module _ (n v : ℕ) (two : 2 ≤ n) (three : n ≤ 3) (es : List Event) where
   at_place : (k : ℕ) → k ≤ n → code_at (senders_of n v es) k ≡ code_of (first_pulse v k es)
   unfolding code_at senders_of
   at_place k i = place_of n silence (codes v es) k three i
+
+  past_fit : (k : ℕ) → k ≤ 3 → n < k → stamp_fits (code_at (senders_of n v es) k) ≡ true
+  unfolding code_at senders_of stamp_fits
+  past_fit k i p = rw (place_past n silence (codes v es) k i p)
 
   -- a sender is heard once its first pulse has come
   pub not_heard : (k : ℕ) → k ≤ n → first_pulse v k es ≡ silent → is_heard (senders_of n v es) k ≡ false
@@ -103,17 +112,19 @@ module _ (n v : ℕ) (two : 2 ≤ n) (three : n ≤ 3) (es : List Event) where
         (λ q. map_two f n q ∙ rw (stamp_is 1 (omega arith), stamp_is 2 (omega arith)) (sym (map_two g n q)))
         (λ q. map_three f n q ∙ rw (stamp_is 1 (omega arith), stamp_is 2 (omega arith), stamp_is 3 (omega arith)) (sym (map_three g n q)))
 
+    code_fits : (k : ℕ) → k ≤ 3 → stamp_fits (code_at (senders_of n v es) k) ≡ true
+    code_fits k i = by_order k n
+        (λ p. rw (at_place k p) (stamp_fit (by_last (first_pulse v k es) (first_between v k es).by)))
+        (λ p. past_fit k i p)
+
     pub fit_is : fit (senders_of n v es) ≡ true
     unfolding fit senders_of
     fit_is =
-        rw (le-leb 2 n two, le-leb n 3 three, code_fits 0 (omega arith), code_fits 1 (omega arith), code_fits 2 (omega arith), code_fits 3 (omega arith))
-      where
-        of_stamp : (x : Stamp) → By last x → stamp_fits (code_of x) ≡ true
-        of_stamp (heard a) (by p) = unfold stamp_fits code_of in rw (ne_eqb a silence (λ q. omega arith), le-leb a last p)
-        of_stamp silent unheard = unfold stamp_fits code_of in refl
-
-        code_fits : (k : ℕ) → k ≤ 3 → stamp_fits (code_at (senders_of n v es) k) ≡ true
-        code_fits k i = by_order k n
-            (λ p. rw (at_place k p) (of_stamp (first_pulse v k es) (by_last (first_pulse v k es) (first_between v k es).by)))
-            (λ p. let e : code_at (senders_of n v es) k ≡ silence = unfold code_at senders_of in place_past n silence (codes v es) k i p in
-            rw e (unfold stamp_fits in refl))
+        rw (
+          code_fits 0 (omega arith),
+          code_fits 1 (omega arith),
+          code_fits 2 (omega arith),
+          code_fits 3 (omega arith),
+          le-leb 2 n two,
+          le-leb n 3 three,
+        )

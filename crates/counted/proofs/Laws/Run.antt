@@ -9,7 +9,7 @@ use Rattle.settings.proofs.Laws.Cases.{by_order}
 use Rattle.rule.specs.Stamp.{Stamp, heard, silent}
 use Rattle.senders.specs.Senders.{last, is_heard}
 use Rattle.board.specs.Stand.{is_running}
-use Rattle.board.specs.State.{runs, pulsed}
+use Rattle.board.specs.State.{pulsed}
 use Rattle.board.specs.Events.{Event, pulse, close}
 use Rattle.board.specs.declared.stand.Stage.{Stage}
 use Rattle.board.specs.declared.stand.Stage.TheVariants.{Running, Pulsed, Ended}

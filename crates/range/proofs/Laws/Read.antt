@@ -1,6 +1,6 @@
 -- The last number in what is printed is that of its last line. Assumes nothing.
 use mathlib.Core.Path.{◌≡◌, refl, ◌∙◌, ap}
-use mathlib.Core.Bool.{Bool, true, false}
+use mathlib.Core.Bool.{Bool, true, false, cond}
 use mathlib.Core.List.{List, [], ◌∷◌, ◌++◌, append_assoc}
 use Prim.Native.Nat.{ℕ, ◌+◌, ◌*◌, ◌^◌, ◌<◌}
 use native.Mathlib.Omega.{arith}
@@ -17,13 +17,13 @@ use Rattle.range.specs.Read.{read_from, last_number}
 read_end : (n : ℕ) (w : Bool) (gs hs : List ℕ) (v : ℕ) → ((m : ℕ) (u : Bool) → read_from m u hs ≡ v) → read_from n w (gs ++ hs) ≡ v
 unfolding read_from
 read_end n w [] hs v e = e n w
-read_end n w (g ∷ gs) hs v e = read_end _ _ gs hs v e
+read_end n w (g ∷ gs) hs v e = read_end (cond (is_digit g) (cond w (n * 10) 0 + value_of g) n) (is_digit g) gs hs v e
 
 -- a space ends a number
 read_spaced : (n : ℕ) (w : Bool) (gs hs : List ℕ) → read_from n w (gs ++ (space ∷ hs)) ≡ read_from (read_from n w gs) false hs
 unfolding read_from is_digit
 read_spaced n w [] hs = refl
-read_spaced n w (g ∷ gs) hs = read_spaced _ _ gs hs
+read_spaced n w (g ∷ gs) hs = read_spaced (cond (is_digit g) (cond w (n * 10) 0 + value_of g) n) (is_digit g) gs hs
 
 -- digits are read as what they spell
 read_digits : (n : ℕ) (gs : List ℕ) → all_are is_digit gs ≡ true → read_from n true gs ≡ spelt_from 10 n gs

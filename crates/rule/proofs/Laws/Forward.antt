@@ -36,6 +36,8 @@ module _ {h : ℕ} (pos : 0 < h) (j : ℕ) where
   P_mono with_own last last (in_order a) (in_order b) last = omega arith
   P_mono without_own (in_order i) (in_order i') (last {x = heard o}) (in_order b) (in_order c) = omega (arith, heard_most pos j o i)
   P_mono without_own (in_order i) (in_order i') (last {x = silent}) (in_order b) (in_order c) = omega arith
+  P_mono with_own last (in_order i') _ _ x = elim x [ ]
+  P_mono without_own last _ _ _ x = elim x [ ]
 
   -- all stamps n later give P n later
   pub P_after : (n : ℕ) {o l m : Stamp} → Enough o l m → closed_P h j (after n o) (after n l) (after n m) ≡ closed_P h j o l m + n
@@ -50,6 +52,8 @@ module _ {h : ℕ} (pos : 0 < h) (j : ℕ) where
   unfolding closed_P
   by_neighbours lo hi (heard o) (in_order i) (within a b) (within c d) = omega (arith, heard_least pos j o i, heard_most pos j o i)
   by_neighbours lo hi silent (in_order i) (within a b) (within c d) = omega arith
+  by_neighbours lo hi (heard o) last _ x = elim x [ ]
+  by_neighbours lo hi silent last _ x = elim x [ ]
 
   -- whatever the other neighbours are, P lies between own and any one of them
   pub by_own_and_one : (o a : ℕ) {l m : Stamp} → l ≼ m → l ≼ heard a → heard a ≼ m →

@@ -1,0 +1,9 @@
+-- `polzaintu_reach` meets its contract. Assumes nothing.
+use mathlib.Core.Path.{◌∙◌}
+use Rattle.polzaintu.proofs.polzaintu_reach.Goals as goal
+
+pub returns : goal.returns
+returns c = record {
+  number = c.reach_left.ensures.number ∙ rw (c.reach-reached.ensures, c.settings_in.ensures);
+  range = c.reach_left.ensures.range ∙ rw (c.reach-reached.ensures, c.settings_in.ensures);
+}

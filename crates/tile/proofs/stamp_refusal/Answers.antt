@@ -1,0 +1,47 @@
+-- `stamp_refusal` meets its contract: it stops at the first late place, or has counted the silent ones. Assumes nothing.
+use mathlib.Core.Path.{◌≡◌, refl, sym, ◌∙◌}
+use Prim.Native.Nat.{suc}
+use native.Mathlib.Numerals.{add-one}
+use native.Mathlib.Omega.{arith}
+use borrow.Author.Tests.{lt-ltb, le-ltb}
+use Rattle.tile.specs.Tile.{late_at, silences as silences_to, silent_at, stamp_tests, stamp_refusal}
+use Rattle.settings.proofs.Laws.Refusal.{skip, hit, end}
+use Rattle.settings.proofs.Laws.AnyBelow.{some_below, none_at_zero, none_below_more}
+use Rattle.tile.proofs.Laws.{silent_most, silences_most}
+use Rattle.tile.proofs.stamp_refusal.Goals as goal
+
+pub loop-place-init : goal.loop-place-init
+loop-place-init c = (omega arith, omega arith, none_at_zero (late_at c.args.stamps), unfold silences_to in refl)
+
+pub returns-then-late : goal.returns-then-late
+unfolding stamp_refusal stamp_tests
+returns-then-late c = let x = c.args.stamps in
+    sym (hit 12 _ (some_below (late_at x) (suc x.count) c.loop-place.place (omega arith) (sym c.late.ensures ∙ c.if-late.true)))
+
+pub overflow_add-silences : goal.overflow_add-silences
+unfolding silent_at
+overflow_add-silences c = let x = c.args.stamps in
+    omega (arith, c.one-silences.ensures, silent_most (silent_at x c.loop-place.place), silences_most x c.loop-place.place)
+
+pub loop-place-preserved : goal.loop-place-preserved
+unfolding silences_to silent_at
+loop-place-preserved c = let i = c.loop-place.invariant in (
+  omega arith,
+  omega arith,
+  none_below_more (late_at c.args.stamps) c.loop-place.place i.2 (sym c.late.ensures ∙ c.if-late.false),
+  rw (add-one, i.3, c.one-silences.ensures),
+)
+
+pub returns-then-silences-gt1 : goal.returns-then-silences-gt1
+unfolding stamp_refusal stamp_tests
+returns-then-silences-gt1 c = let i = c.loop-place.invariant in
+    let x = c.args.stamps in
+    let all : c.loop-place.place ≡ suc x.count = omega arith in
+    sym (skip 12 _ (rw all at i.2) ∙ hit 13 _ (lt-ltb 1 (silences_to x (suc x.count)) (rw (i.3, all) at c.if-silences-gt1.true)))
+
+pub returns : goal.returns
+unfolding stamp_refusal stamp_tests
+returns c = let i = c.loop-place.invariant in
+    let x = c.args.stamps in
+    let all : c.loop-place.place ≡ suc x.count = omega arith in
+    sym (skip 12 _ (rw all at i.2) ∙ end 13 (le-ltb 1 (silences_to x (suc x.count)) (rw (i.3, all) at c.if-silences-gt1.false)))
