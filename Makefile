@@ -11,21 +11,21 @@ PROGRAMS = wallrun wallreach wallwide
 TO = $(DESTDIR)$(PREFIX)
 
 all:
-	rt check $(PROGRAMS)
-	rt staticlib polzaintu
+	for program in $(PROGRAMS); do tools/program $$program || exit 1; done
+	cd crates/polzaintu && rt lib
 
 check:
 	bash .ci/run
 
 install:
-	for program in $(PROGRAMS); do test -x target/bin/$$program || { echo "run make first" >&2; exit 1; }; done
-	test -f target/staticlib/libpolzaintu.a || { echo "run make first" >&2; exit 1; }
+	for program in $(PROGRAMS); do test -x crates/$$program/out/$$program || { echo "run make first" >&2; exit 1; }; done
+	test -f crates/polzaintu/out/libpolzaintu.a || { echo "run make first" >&2; exit 1; }
 	mkdir -p "$(TO)/bin" "$(TO)/lib/pkgconfig" "$(TO)/include" "$(TO)/share/man/man1"
 	for program in $(PROGRAMS); do \
-	    install -m 755 target/bin/$$program "$(TO)/bin/" && \
+	    install -m 755 crates/$$program/out/$$program "$(TO)/bin/" && \
 	    install -m 644 docs/man/$$program.1 "$(TO)/share/man/man1/" || exit 1; \
 	done
-	install -m 644 target/staticlib/libpolzaintu.a "$(TO)/lib/"
+	install -m 644 crates/polzaintu/out/libpolzaintu.a "$(TO)/lib/"
 	install -m 644 bindings/c/polzaintu.h "$(TO)/include/"
 	version=$$(sed -n 's/^version = "\(.*\)"/\1/p' bindings/rust/Cargo.toml) && \
 	    sed -e 's|@PREFIX@|$(PREFIX)|' -e "s|@VERSION@|$$version|" bindings/polzaintu.pc.in \

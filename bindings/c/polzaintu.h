@@ -1,4 +1,4 @@
-/* The pulse planner for C: link libpolzaintu.a, which `rt staticlib polzaintu` writes for x86-64.
+/* The pulse planner for C: link libpolzaintu.a, which `rt lib` in crates/polzaintu writes for x86-64.
  *
  * Every function answers every input and keeps nothing between calls. An answer of uint32_t is 0,
  * or the number under which the call is turned away: the lowest that applies, where 53 stands

@@ -1,5 +1,5 @@
-//! Finds the static library: in `POLZAINTU_LIB_DIR`, otherwise where `rt staticlib polzaintu`
-//! writes it.
+//! Finds the static library: in `POLZAINTU_LIB_DIR`, otherwise where `rt lib` in
+//! crates/polzaintu writes it.
 
 use std::path::PathBuf;
 use std::{env, process};
@@ -11,7 +11,7 @@ fn main() {
     println!("cargo:rerun-if-changed={}", archive.display());
     if !archive.is_file() {
         eprintln!("there is no {}", archive.display());
-        eprintln!("`rt staticlib polzaintu`, at the root of the repository, writes it;");
+        eprintln!("`rt lib`, in crates/polzaintu of the repository, writes it;");
         eprintln!("POLZAINTU_LIB_DIR names another folder that has it");
         process::exit(1);
     }
@@ -21,5 +21,5 @@ fn main() {
 
 fn written_by_rt() -> PathBuf {
     let package = env::var_os("CARGO_MANIFEST_DIR").expect("cargo sets the package's folder");
-    PathBuf::from(package).join("../../target/staticlib")
+    PathBuf::from(package).join("../../crates/polzaintu/out")
 }
