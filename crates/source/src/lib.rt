@@ -31,7 +31,7 @@ impl Read for Source {
     }
 }
 
-// A reader or a writer that keeps why its last call that failed did.
+// A reader or a writer that keeps why its last call failed.
 #[derive(Drop)]
 pub struct Noted<T> {
     inner: T,
@@ -46,7 +46,7 @@ impl<T> Noted<T> {
         }
     }
 
-    // Where no call failed, one took nothing.
+    // Where the last call did not fail, it took nothing.
     pub fn why(&self) -> Error {
         match self.failed {
             Some(e) => e,
@@ -58,7 +58,10 @@ impl<T> Noted<T> {
 impl<R: Read> Read for Noted<R> {
     fn read(&mut self, buf: &mut [u8]) -> io::Result<usize> {
         match self.inner.read(buf) {
-            Ok(n) => Ok(n),
+            Ok(n) => {
+                self.failed = None;
+                Ok(n)
+            }
             Err(e) => {
                 self.failed = Some(e);
                 Err(e)
@@ -70,7 +73,10 @@ impl<R: Read> Read for Noted<R> {
 impl<W: Write> Write for Noted<W> {
     fn write(&mut self, buf: &[u8]) -> io::Result<usize> {
         match self.inner.write(buf) {
-            Ok(n) => Ok(n),
+            Ok(n) => {
+                self.failed = None;
+                Ok(n)
+            }
             Err(e) => {
                 self.failed = Some(e);
                 Err(e)
