@@ -5,7 +5,7 @@
 mod number;
 mod numbers;
 
-ghost use Rattle.std.specs.Prelude.{◌≤◌, length};
+ghost use Rattle.std.specs.Prelude.{◌≡◌, ◌≢◌, ℕ, ◌≤◌, ◌<◌, length, slice_index};
 
 pub use numbers::Numbers;
 use numbers::{Words, from_first, of_words};
@@ -71,7 +71,9 @@ pub fn report(out: &mut impl Write, line: &[u8], right: bool) -> io::Result<()> 
 // Where the byte first stands from the start on, and the text's length where it does not.
 pub fn find(text: &[u8], start: usize, byte: u8) -> usize
     requires { start ≤ length text.now }
-    ensures { (start ≤ result) × (result ≤ length text.now) }
+    ensures within { (start ≤ result) × (result ≤ length text.now) }
+    ensures before { (k : ℕ) → start ≤ k → k < result → slice_index text.now k ≢ byte }
+    ensures found { result < length text.now → slice_index text.now result ≡ byte }
 {
     let mut at = start;
     while at < text.len() {

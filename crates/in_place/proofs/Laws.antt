@@ -5,23 +5,13 @@ use Prim.Native.Nat.{ℕ, ◌≤◌}
 use native.Mathlib.Omega.{arith}
 use lib.ListN.{length, drop, length-append}
 use lib.Seq.{take_at}
-use Rattle.settings.proofs.Laws.Cases.{by_equal}
 use Rattle.row.specs.Row.{Pulses, pulses, cut}
 use Rattle.stages.specs.declared.Wall.{Wall}
-use Rattle.steps.specs.Answer.{number_due}
-use Rattle.steps.specs.Step.{Stepped, stepped, away, step_of}
-use Rattle.steps.specs.Take.{taken_of, step_from, next_row, StepTaken}
+use Rattle.steps.specs.Step.{step_of}
+use Rattle.steps.specs.Take.{taken_of, step_from, StepTaken}
 use Rattle.steps.specs.declared.Taken.{Taken}
 use Rattle.in_place.specs.Replaced.{Replaces}
-use Rattle.steps.proofs.Laws.Answer.{step_goes, step_away, row_goes_on, row_stays}
-
--- a step that is lent the last row's place leaves the row of the definition there
-row_in_place : (x : Wall) (row : Pulses) (bs : List ℕ) → next_row x row.times bs row ≡ (step_of x row bs).row
-unfolding away stepped
-row_in_place x row bs =
-    by_equal (number_due x row.times bs) 0
-    (λ e. row_goes_on row.times bs row x e ∙ sym (ap (λ (o : Stepped). o.row) (step_goes row bs x e)))
-    (λ k. row_stays row.times bs row x k ∙ sym (ap (λ (o : Stepped). o.row) (step_away row bs x k)))
+use Rattle.show.proofs.Laws.{row_in_place}
 
 -- by copies of the last row
 pub replaces : {x : Wall} {part : List ℕ} {lent after : Pulses} {t : Taken} {times letters : List ℕ} → times ≡ lent.times → letters ≡ lent.letters → StepTaken x part times lent t after →

@@ -28,17 +28,3 @@ pub fn replace(
     last_letters.copy_from_slice(letters);
     take_fit(wall, part, last, links, row, letters)
 }
-
-// Room for the times of a row.
-pub fn time_space() -> [u64; 256]
-    ensures { 256 ≡ length result }
-{
-    [0; 256]
-}
-
-// Room for its letters.
-pub fn letter_space() -> [u8; 256]
-    ensures { 256 ≡ length result }
-{
-    [0; 256]
-}
