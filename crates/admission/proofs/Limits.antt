@@ -7,20 +7,21 @@ use lib.ListN.{length, get_or}
 use native.Mathlib.Omega.{arith}
 use borrow.Author.Tests.{eq-eqb, le-ltb}
 use Rattle.settings.specs.Refusal.{any_below}
-use Rattle.settings.specs.Settings.{settings_refusal}
+use Rattle.settings.specs.Settings.{settings_cause, settings_refusal}
+use Rattle.settings.specs.declared.refusal.Refusal.TheVariants as why
 use Rattle.settings.specs.Limits.{SettingsPlain}
 use Rattle.settings.specs.declared.Settings.{Settings}
 use Rattle.settings.proofs.Limits.{settings_plain}
 use Rattle.settings.proofs.Laws.Settings.{limits}
 use Rattle.settings.proofs.Laws.AnyBelow.{none_till}
-use Rattle.settings.proofs.Laws.Refusal.{skip, skip_given, end, unhit, unhit_given}
+use Rattle.settings.proofs.Laws.Refusal.{skip, skip_given, end, no_number, unhit, unhit_given}
 use Rattle.rule.specs.Clock.{phase_most}
 use Rattle.columns.specs.Marks.{marked, mark_bytes}
 use Rattle.columns.proofs.Laws.Lists.{by_test}
 use Rattle.links.specs.Links.{latest_time, bad_links}
 use Rattle.admission.specs.Call.{Call}
 use Rattle.admission.specs.Limits.{RowLimits, RowPlain}
-use Rattle.admission.specs.Refusal.{lengths_are, lengths_right, stray_mark, late_time, crowded, over, row_tests, row_refusal}
+use Rattle.admission.specs.Refusal.{lengths_are, lengths_right, stray_mark, late_time, crowded, over, row_tests, row_cause, row_refusal}
 use Rattle.admission.proofs.Laws.Accepted.{accepted}
 use Rattle.admission.proofs.Laws.Limits.{NoneApplies, none_applies, within_limits}
 
@@ -49,32 +50,33 @@ module _ (s : Settings) (ts : List ℕ) (x : Call) where
         (λ m. rw (le-ltb latest_time (get_or ts c 0) (k.early c i m)) (and-false (not (marked x.marks c)))))
 
     kept : row_refusal s ts x ≡ 0
-    unfolding row_refusal row_tests SettingsPlain
+    unfolding row_refusal row_cause row_tests settings_refusal SettingsPlain
     kept =
         let none = none_applies s x.marks x.drifts x.phases x.links k.settings.width.0 k.tiles in
-        skip_given (settings_refusal s) _ ((settings_plain s).0 k.settings)
-        ∙ skip 21 _ (rw lengths_fit)
-        ∙ skip 22 _ none.none_stray
-        ∙ skip 23 _ none_late
-        ∙ skip 24 _ none.none_crowded
-        ∙ skip 25 _ none.none_fast
-        ∙ skip 53 _ none.none_out_of_phase
-        ∙ end 26 none.none_bad
+        no_number _
+        (skip_given (settings_cause s) _ ((settings_plain s).0 k.settings)
+        ∙ skip why.Lengths _ (rw lengths_fit)
+        ∙ skip why.StrayMark _ none.none_stray
+        ∙ skip why.LateTime _ none_late
+        ∙ skip why.Crowded _ none.none_crowded
+        ∙ skip why.TileDrift _ none.none_fast
+        ∙ skip why.Phase _ none.none_out_of_phase
+        ∙ end why.Link none.none_bad)
 
   -- and one that meets none is within them
   module _ (e : row_refusal s ts x ≡ 0) where
     untouched : NoneApplies s x.marks x.drifts x.phases x.links
-    unfolding row_refusal row_tests
+    unfolding row_refusal row_cause row_tests
     untouched =
         let w = s.width in
-        let t1 = unhit_given (settings_refusal s) _ e in
-        let t2 = unhit 20 (not (lengths_right w ts x)) _ t1.1 in
-        let t3 = unhit 21 (any_below (8 * mark_bytes w) (stray_mark w x.marks)) _ t2.1 in
-        let t4 = unhit 22 (any_below w (late_time ts x.marks)) _ t3.1 in
-        let t5 = unhit 23 (any_below w (crowded w x.marks)) _ t4.1 in
-        let t6 = unhit 24 (any_below w (over s.drift x.drifts)) _ t5.1 in
-        let t7 = unhit 52 (any_below w (over phase_most x.phases)) _ t6.1 in
-        let t8 = unhit 25 (any_below w (bad_links s x.marks x.links)) _ t7.1 in
+        let t1 = unhit_given (settings_cause s) _ e in
+        let t2 = unhit why.Lengths (not (lengths_right w ts x)) _ t1.1 in
+        let t3 = unhit why.StrayMark (any_below (8 * mark_bytes w) (stray_mark w x.marks)) _ t2.1 in
+        let t4 = unhit why.LateTime (any_below w (late_time ts x.marks)) _ t3.1 in
+        let t5 = unhit why.Crowded (any_below w (crowded w x.marks)) _ t4.1 in
+        let t6 = unhit why.TileDrift (any_below w (over s.drift x.drifts)) _ t5.1 in
+        let t7 = unhit why.Phase (any_below w (over phase_most x.phases)) _ t6.1 in
+        let t8 = unhit why.Link (any_below w (bad_links s x.marks x.links)) _ t7.1 in
         record { none_stray = t3.0; none_crowded = t5.0; none_fast = t6.0; none_out_of_phase = t7.0; none_bad = t8.0 }
 
     limited : RowLimits s ts x

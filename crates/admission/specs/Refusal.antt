@@ -1,8 +1,10 @@
 -- When a row call is turned away: the numbers 21 to 26, and 53 among them. Assumes nothing.
-use Rattle.std.specs.Prelude.{Bool, not, ◌&&◌, List, [], ◌∷◌, ℕ, ◌+◌, ◌*◌, ltb, leb, eqb, length, get_or}
-use Rattle.settings.specs.Refusal.{Test, ◌when◌, first, any_below}
-use Rattle.settings.specs.Settings.{settings_refusal}
+use Rattle.std.specs.Prelude.{Bool, not, ◌&&◌, List, [], ◌∷◌, ℕ, ◌+◌, ◌*◌, ltb, leb, eqb, length, get_or, Option}
+use Rattle.settings.specs.Refusal.{Test, ◌when◌, first, any_below, or_else, refused}
+use Rattle.settings.specs.Settings.{settings_cause}
 use Rattle.settings.specs.declared.Settings.{Settings}
+use Rattle.settings.specs.declared.refusal.Refusal.{Refusal}
+use Rattle.settings.specs.declared.refusal.Refusal.TheVariants.{Lengths, StrayMark, LateTime, Crowded, TileDrift, Phase, Link}
 use Rattle.rule.specs.Clock.{phase_most}
 use Rattle.columns.specs.Columns.{predecessors}
 use Rattle.admission.specs.Call.{Call}
@@ -35,19 +37,22 @@ crowded w ms c = ltb 1 (faulty_among ms (predecessors w c))
 unfoldable pub over : (limit : ℕ) → (values : List ℕ) → (c : ℕ) → Bool
 over most vs c = ltb most (get_or vs c 0)
 
--- §7.4 the settings' number, then 21 to 26, with 53 before 26 (§E4.3), each wherever in the row it applies
+-- §7.4 the tests of a row, 21 to 26, with 53 before 26 (§E4.3), each wherever in the row it applies
 unfoldable pub row_tests : Settings → (before : List ℕ) → Call → List Test
 row_tests s ts x =
-    settings_refusal s when not (eqb (settings_refusal s) 0)
-    ∷ 21 when not (lengths_right s.width ts x)
-    ∷ 22 when any_below (8 * mark_bytes s.width) (stray_mark s.width x.marks)
-    ∷ 23 when any_below s.width (late_time ts x.marks)
-    ∷ 24 when any_below s.width (crowded s.width x.marks)
-    ∷ 25 when any_below s.width (over s.drift x.drifts)
-    ∷ 53 when any_below s.width (over phase_most x.phases)
-    ∷ 26 when any_below s.width (bad_links s x.marks x.links)
+    Lengths when not (lengths_right s.width ts x)
+    ∷ StrayMark when any_below (8 * mark_bytes s.width) (stray_mark s.width x.marks)
+    ∷ LateTime when any_below s.width (late_time ts x.marks)
+    ∷ Crowded when any_below s.width (crowded s.width x.marks)
+    ∷ TileDrift when any_below s.width (over s.drift x.drifts)
+    ∷ Phase when any_below s.width (over phase_most x.phases)
+    ∷ Link when any_below s.width (bad_links s x.marks x.links)
     ∷ []
+
+-- §7.4 why a row call is turned away, if it is: its settings, or else the first of these tests that applies
+unfoldable pub row_cause : Settings → (before : List ℕ) → Call → Option Refusal
+row_cause s ts x = or_else (settings_cause s) (first (row_tests s ts x))
 
 -- §7.4 the number under which a row call is turned away, 0 where it is accepted
 unfoldable pub row_refusal : Settings → (before : List ℕ) → Call → ℕ
-row_refusal s ts x = first (row_tests s ts x)
+row_refusal s ts x = refused (row_cause s ts x)

@@ -1,24 +1,25 @@
-// When a row call is turned away. Each check goes over the whole row, so that the first number that
+// When a row call is turned away. Each check goes over the whole row, so that the first refusal that
 // applies anywhere is the one given: 21 to 26, with 53 before 26.
 #![tactic(auto)]
 
-ghost use Rattle.std.specs.Prelude.{◌≡◌, true, cond, ◌+◌, ◌*◌, ◌/◌, ◌≤◌, ◌<◌, length};
+ghost use Rattle.std.specs.Prelude.{◌≡◌, true, ◌*◌, ◌≤◌, ◌<◌, length};
 ghost use Rattle.std.specs.Int.Count.{ones};
-ghost use Rattle.settings.specs.Refusal.{any_below};
+ghost use Rattle.settings.specs.Refusal.{any_below, answer};
 ghost use Rattle.columns.specs.Columns.{predecessors};
 ghost use Rattle.admission.specs.Call.{call};
 ghost use Rattle.links.specs.Links.{latest_time};
 ghost use Rattle.columns.specs.Marks.{marked, mark_bytes, faulty_among};
 ghost use Rattle.admission.specs.Together.{AllBy};
-ghost use Rattle.admission.specs.Refusal.{lengths_are, stray_mark, late_time, crowded, over, row_refusal};
+ghost use Rattle.admission.specs.Refusal.{stray_mark, late_time, crowded, over, row_cause};
 
 use columns::{first_sender, four_senders, marked, quiet};
 use links::{LATEST, any_bad_links};
 use rule::clock::Clock;
 use settings::Settings;
+use settings::refusal::Refusal;
 
-// The number under which a row call is turned away, or 0.
-pub fn refusal(
+// Why a row call is turned away, if it is.
+pub fn check(
     settings: Settings,
     before: &[u64],
     marks: &[u8],
@@ -27,68 +28,40 @@ pub fn refusal(
     links: &[u64],
     room: usize,
     letters: usize,
-) -> u32
-    ensures { result ≡ row_refusal settings before.now (call marks.now drifts.now phases.now links.now room letters) }
+) -> Result<(), Refusal>
+    ensures { result ≡ answer (row_cause settings before.now (call marks.now drifts.now phases.now links.now room letters)) tt }
 {
-    let number = settings.refusal();
-    if number != 0 {
-        return number;
-    }
+    settings.check()?;
     let width = settings.width as usize;
-    if !lengths(
-        width,
-        before.len(),
-        marks.len(),
-        drifts.len(),
-        phases.len(),
-        links.len(),
-        room,
-        letters,
-    ) {
-        return 21;
+    if before.len() != width
+        || marks.len() != width.div_ceil(8)
+        || drifts.len() != width
+        || phases.len() != width
+        || links.len() != 3 * width + 2
+        || room != width
+        || letters != width
+    {
+        return Err(Refusal::Lengths);
     }
     if stray_mark(width, marks) {
-        return 22;
+        return Err(Refusal::StrayMark);
     }
-    if late_time(width, before, marks) {
-        return 23;
+    if late_time(before, marks) {
+        return Err(Refusal::LateTime);
     }
     if crowded(width, marks) {
-        return 24;
+        return Err(Refusal::Crowded);
     }
-    if any_over(width, settings.drift, drifts) {
-        return 25;
+    if any_over(settings.drift, drifts) {
+        return Err(Refusal::TileDrift);
     }
-    if any_over(width, Clock::PHASE_MOST, phases) {
-        return 53;
+    if any_over(Clock::PHASE_MOST, phases) {
+        return Err(Refusal::Phase);
     }
     if any_bad_links(settings, width, marks, links) {
-        return 26;
+        return Err(Refusal::Link);
     }
-    0
-}
-
-// Whether each length is right; 21 where not.
-fn lengths(
-    width: usize,
-    before: usize,
-    marks: usize,
-    drifts: usize,
-    phases: usize,
-    links: usize,
-    room: usize,
-    letters: usize,
-) -> bool
-    requires { width ≤ 256 }
-    ensures { result ≡ lengths_are width before marks drifts phases links room letters }
-{
-    (before == width)
-        & (marks == (width + 7) / 8)
-        & (drifts == width)
-        & (phases == width)
-        & (links == 3 * width + 2)
-        & (room == width)
-        & (letters == width)
+    Ok(())
 }
 
 // 22: a mark past the last column.
@@ -96,32 +69,26 @@ fn stray_mark(width: usize, marks: &[u8]) -> bool
     requires { (width ≤ 256) × (length marks.now ≡ mark_bytes width) }
     ensures { result ≡ any_below (8 * mark_bytes width) (stray_mark width marks.now) }
 {
-    let mut c = width;
-    while c < 8 * marks.len() {
+    for c in width..8 * marks.len() {
         if marked(marks, c) {
             return true;
         }
-        c += 1;
     }
     false
 }
 
 // 23: a correct tile's time that is too late.
-fn late_time(width: usize, before: &[u64], marks: &[u8]) -> bool
-    requires { (length before.now ≡ width) × (length marks.now ≡ mark_bytes width) }
-    ensures { result ≡ any_below width (late_time before.now marks.now) }
+fn late_time(before: &[u64], marks: &[u8]) -> bool
+    requires { length marks.now ≡ mark_bytes (length before.now) }
+    ensures { result ≡ any_below (length before.now) (late_time before.now marks.now) }
 {
     if all_on_time(before) {
         return false;
     }
-    let mut c = 0;
-    while c < width {
-        if LATEST < before[c] {
-            if !marked(marks, c) {
-                return true;
-            }
+    for (c, time) in before.iter().enumerate() {
+        if LATEST < *time && !marked(marks, c) {
+            return true;
         }
-        c += 1;
     }
     false
 }
@@ -130,29 +97,26 @@ fn late_time(width: usize, before: &[u64], marks: &[u8]) -> bool
 fn all_on_time(before: &[u64]) -> bool
     ensures { result ≡ true → AllBy latest_time before.now }
 {
-    let mut bits: u64 = 0;
-    let mut c = 0;
-    while c < before.len() {
-        bits = bits | before[c];
-        c += 1;
+    let mut bits = 0;
+    for time in before {
+        bits |= *time;
     }
     bits <= LATEST
 }
 
-// 24: a tile with two faulty predecessors.
+// 24: a tile with two faulty predecessors. The tiles of a quiet byte of marks have none.
 fn crowded(width: usize, marks: &[u8]) -> bool
     requires { (6 ≤ width) × (width ≤ 256) × (length marks.now ≡ mark_bytes width) }
     ensures { result ≡ any_below width (crowded width marks.now) }
 {
-    let mut c = 0;
-    while c < width {
-        if quiet(width, marks, c) {
-            c += 8;
-        } else {
-            if 1 < u8::count_ones(gathered(width, marks, c)) {
-                return true;
+    for byte in 0..marks.len() {
+        let first = 8 * byte;
+        if !quiet(width, marks, first) {
+            for c in first..width.min(first + 8) {
+                if 1 < gathered(width, marks, c).count_ones() {
+                    return true;
+                }
             }
-            c += 1;
         }
     }
     false
@@ -164,37 +128,22 @@ fn gathered(width: usize, marks: &[u8], c: usize) -> u8
     ensures { ones result ≡ faulty_among marks.now (predecessors width c) }
 {
     let k = first_sender(width, c);
-    let three = (bit(marks, k) * 2 + bit(marks, k + 1)) * 2 + bit(marks, k + 2);
+    let three = (u8::from(marked(marks, k)) * 2 + u8::from(marked(marks, k + 1))) * 2
+        + u8::from(marked(marks, k + 2));
     if four_senders(width, c) {
-        return three * 2 + bit(marks, k + 3);
+        three * 2 + u8::from(marked(marks, k + 3))
+    } else {
+        three
     }
-    three
-}
-
-// A column's mark as a digit.
-fn bit(marks: &[u8], c: usize) -> u8
-    requires { c / 8 < length marks.now }
-    ensures { result ≡ cond (marked marks.now c) 1 0 }
-{
-    if marked(marks, c) {
-        return 1;
-    }
-    0
 }
 
 // 25 and 53: a drift or a phase over its limit.
-fn any_over(width: usize, limit: u64, values: &[u32]) -> bool
-    requires { length values.now ≡ width }
-    ensures { result ≡ any_below width (over limit values.now) }
+fn any_over(limit: u64, values: &[u32]) -> bool
+    ensures { result ≡ any_below (length values.now) (over limit values.now) }
 {
     let mut most: u32 = 0;
-    let mut c = 0;
-    while c < width {
-        let value = values[c];
-        if most < value {
-            most = value;
-        }
-        c += 1;
+    for value in values {
+        most = most.max(*value);
     }
-    limit < most as u64
+    limit < u64::from(most)
 }

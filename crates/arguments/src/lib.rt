@@ -2,6 +2,8 @@
 #![tactic(auto)]
 
 ghost use Rattle.std.specs.Prelude.{◌≡◌, true, ◌≤◌, ◌<◌};
+ghost use Rattle.std.specs.Char.{is_ascii_digit};
+ghost use Rattle.std.specs.List.{list_all};
 ghost use Rattle.lines.specs.Promises.{is_digit, all_are, spelt};
 ghost use Rattle.arguments.specs.Words.{number_word, option_word, word_of};
 ghost use Rattle.arguments.specs.Call.{SomeWord, Called};
@@ -39,94 +41,76 @@ pub enum Call {
 // No word has more bytes.
 pub const WORD_MOST: usize = 4096;
 
-// Writes the numbers in front, each from `least` to `largest`, of which `needed` have to be there, and answers what the call asks for.
-pub fn read<E: Env>(env: &E, needed: usize, least: u64, largest: u64, numbers: &mut [u64]) -> Call
-    requires { largest ≤ 4398046511104 }
-    ensures { Called needed least largest numbers.old result numbers.new }
+// The numbers that a call may have in front.
+#[derive(Clone, Copy)]
+pub struct Limits {
+    pub least: u64,
+    pub largest: u64,
+    // So that a digit more still fits.
+    ghost small: { largest ≤ 4398046511104 },
+}
+
+// Writes the numbers in front, each within the limits, of which `needed` have to be there, and answers what the call asks for.
+pub fn read<E: Env>(env: &E, needed: usize, limits: Limits, numbers: &mut [u64]) -> Call
+    ensures { Called needed limits.least limits.largest numbers.old result numbers.new }
 {
-    let count = word_count(env);
-    let mut i = 1;
-    while i < count {
-        match argument(env, i, least, largest) {
-            Word::Number(n) => {
-                if numbers.len() < i {
-                    return Call::Wrong(i);
-                }
-                numbers[i - 1] = n;
-                i += 1;
-            }
-            Word::Name => {
-                if i <= needed {
-                    return Call::Wrong(i);
-                }
+    // The program's name is one, even where the system gives none.
+    let count = word_count(env).max(1);
+    for i in 1..count {
+        match argument(env, i, limits) {
+            Word::Number(n) if i <= numbers.len() => numbers[i - 1] = n,
+            Word::Name if needed < i => {
                 if i + 1 < count {
                     return Call::Wrong(i + 1);
                 }
                 return Call::File(i);
             }
-            Word::Help => {
-                if i == 1 {
-                    return Call::Help;
-                }
-                return Call::Wrong(i);
-            }
-            Word::Version => {
-                if i == 1 {
-                    return Call::Version;
-                }
-                return Call::Wrong(i);
-            }
-            Word::Other => {
-                return Call::Wrong(i);
-            }
+            Word::Help if i == 1 => return Call::Help,
+            Word::Version if i == 1 => return Call::Version,
+            _ => return Call::Wrong(i),
         }
     }
-    if i <= needed {
+    if count <= needed {
         return Call::Missing;
     }
     Call::Input
 }
 
-// How many words there are, the program's name among them.
+// How many words there are, the program's name among them. They are counted by asking for each: `Env` tells no count, and `env::args`
+// takes memory and turns away a word that is no UTF-8.
 pub fn word_count<E: Env>(env: &E) -> usize {
     let mut first = [0u8; 1];
     for i in 0..usize::MAX {
-        match env.arg(i, &mut first) {
-            Err(FillError::NotPresent) => return i,
-            _ => {}
+        if let Err(FillError::NotPresent) = env.arg(i, &mut first) {
+            return i;
         }
     }
     usize::MAX
 }
 
 // The word at a place. One that is too long for the buffer is none that is known.
-fn argument<E: Env>(env: &E, i: usize, least: u64, largest: u64) -> Word
-    requires { largest ≤ 4398046511104 }
-    ensures { SomeWord least largest result }
+fn argument<E: Env>(env: &E, i: usize, limits: Limits) -> Word
+    ensures { SomeWord limits.least limits.largest result }
 {
     let mut buffer = [0u8; WORD_MOST];
     match env.arg(i, &mut buffer) {
-        Ok(n) => word_of(&buffer[..n], least, largest),
+        Ok(n) => word_of(&buffer[..n], limits),
         Err(_) => Word::Other,
     }
 }
 
-fn word_of(word: &[u8], least: u64, largest: u64) -> Word
-    requires { largest ≤ 4398046511104 }
-    ensures { result ≡ word_of least largest word.now }
+fn word_of(word: &[u8], limits: Limits) -> Word
+    ensures { result ≡ word_of limits.least limits.largest word.now }
 {
-    if word.len() == 0 {
-        return Word::Other;
+    match word {
+        [] => Word::Other,
+        [b'-', ..] => option(word),
+        _ if all_digits(word) => number(word, limits),
+        _ => Word::Name,
     }
-    if word[0] == b'-' {
-        return option(word);
-    }
-    if all_digits(word) {
-        return number(word, least, largest);
-    }
-    Word::Name
 }
 
+// Two comparisons: a match on the two texts asks for each of their bytes.
 fn option(word: &[u8]) -> Word
     ensures { result ≡ option_word word.now }
 {
@@ -140,45 +124,25 @@ fn option(word: &[u8]) -> Word
 }
 
 fn all_digits(word: &[u8]) -> bool
-    ensures { result ≡ all_are is_digit word.now }
+    ensures { result ≡ list_all is_ascii_digit word.now }
 {
-    let mut i = 0;
-    while i < word.len() {
-        let digit = word[i];
-        if digit < b'0' {
-            return false;
-        }
-        if b'9' < digit {
-            return false;
-        }
-        i += 1;
-    }
-    true
+    word.iter().all(|byte| byte.is_ascii_digit())
 }
 
 // The number that digits spell. One that passes the limits on the way is not read on.
-fn number(word: &[u8], least: u64, largest: u64) -> Word
-    requires { (all_are is_digit word.now ≡ true) × (largest ≤ 4398046511104) }
-    ensures { result ≡ number_word least largest (spelt 10 word.now) }
+fn number(word: &[u8], limits: Limits) -> Word
+    requires { all_are is_digit word.now ≡ true }
+    ensures { result ≡ number_word limits.least limits.largest (spelt 10 word.now) }
 {
     let mut n: u64 = 0;
-    let mut i = 0;
-    while i < word.len() {
-        n = n * 10 + wide(word[i] - b'0');
-        if largest < n {
+    for byte in word {
+        n = n * 10 + u64::from(*byte - b'0');
+        if limits.largest < n {
             return Word::Other;
         }
-        i += 1;
     }
-    if n < least {
+    if n < limits.least {
         return Word::Other;
     }
     Word::Number(n)
-}
-
-fn wide(digit: u8) -> u64
-    ensures same { result ≡ digit }
-    ensures few { result < 256 }
-{
-    digit as u64
 }

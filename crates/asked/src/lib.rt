@@ -12,7 +12,7 @@ ghost use Rattle.asked.specs.Asked.{HasTables, told_of};
 
 use show::show;
 use stages::Wall;
-use steps::Taken;
+use steps::RefusedAt;
 use told::Told;
 
 #[derive(Clone, Copy)]
@@ -31,7 +31,7 @@ pub fn tell(
     asked: Asked,
     given: &[u64],
     wall: Wall,
-    taken: Taken,
+    taken: Result<Wall, RefusedAt>,
     part: &[u8],
     row: &[u64],
     letters: &[u8],
@@ -44,10 +44,9 @@ pub fn tell(
 {
     match asked {
         Asked::Lines => {
-            let after = taken.wall;
             let end = show(given, wall, taken, part, row, letters, out, at);
             Told {
-                wall: after,
+                wall: taken.unwrap_or(Wall::Over),
                 kept,
                 end,
             }

@@ -10,7 +10,7 @@ ghost use Rattle.asked.specs.Asked.{HasTables, told_of, Tells};
 
 use asked::{Asked, tell};
 use stages::Wall;
-use steps::rows::copy;
+use steps::take_fit;
 use told::Told;
 
 // Takes the part that is due and tells what that brought of the last row; the next takes its place. All rows are of the wall's width;
@@ -32,26 +32,19 @@ pub fn step(
     requires { HasTables asked given.now × Stands wall × (770 ≤ length links.old) × (length last.old ≡ width_of wall) × (length last_letters.old ≡ width_of wall) × (length row.old ≡ width_of wall) × (length letters.old ≡ width_of wall) × (length row.old ≤ 256) × (at + step_room ≤ length out.old) }
     ensures { Tells (told_of asked (take 16 given.now)) wall kept part.now (pulses row.old letters.old) out.old at result (pulses row.new letters.new) out.new }
 {
-    copy(row, last);
+    last.copy_from_slice(row);
     last_letters.copy_from_slice(letters);
-    match steps::take_in(wall, part, last, links, row, letters) {
-        steps::Answer::Taken(taken) => tell(
-            asked,
-            given,
-            wall,
-            taken,
-            part,
-            last,
-            last_letters,
-            kept,
-            out,
-            at,
-        ),
-        // Rows of the wall's width always fit.
-        steps::Answer::Unfit => Told {
-            wall: Wall::Over,
-            kept,
-            end: at,
-        },
-    }
+    let taken = take_fit(wall, part, last, links, row, letters);
+    tell(
+        asked,
+        given,
+        wall,
+        taken,
+        part,
+        last,
+        last_letters,
+        kept,
+        out,
+        at,
+    )
 }

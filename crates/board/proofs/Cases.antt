@@ -2,12 +2,13 @@
 use mathlib.Core.Path.{◌≡◌, refl, ◌∙◌, ap}
 use mathlib.Core.List.{List, [], ◌∷◌}
 use Prim.Native.Nat.{ℕ, suc, ◌-◌, ◌^◌}
+use Rattle.settings.specs.Refusal.{or_else}
 use Rattle.settings.specs.declared.Settings.{Settings}
 use Rattle.senders.proofs.Cases.{senders_computed}
 use Rattle.senders.specs.Senders.{last}
 use Rattle.board.specs.Stand.{stand, closing, told, is_running}
-use Rattle.board.specs.State.{looked_at, reached, fits, runs, start_tests, start_refusal, fresh, started, hears, pulsed, at as at_stand, shut, shut_many, answered, closed, closed_many}
-use Rattle.board.specs.Closing.{end_of, closings, jumped}
+use Rattle.board.specs.State.{looked_at, reached, fits, runs, start_tests, start_cause, start_refusal, fresh, first_stage, started, hears, pulsed, at as at_stand, shut, shut_many, answered, closed, closed_many}
+use Rattle.board.specs.Closing.{end_of, due_by, closings, jumped}
 use Rattle.board.specs.Cases.{wall, drifting, StartCases, state, FreshCase, RefusedCase, Arrival, ◌at◌, arrives, arrive, PulsesAt, InEach, TileCases, ThreeCases, LateStartCase, UnheardCases, RepeatCases, ToldCases, SenderCases, OverCases, late, LastCases}
 use Rattle.board.specs.declared.Board.{Board}
 use Rattle.board.specs.declared.stand.Stage.TheVariants as stage
@@ -15,12 +16,12 @@ use Rattle.board.proofs.Laws.Closing.{jumps}
 
 -- what a state is computed by; the crates above go on from it
 unfoldable pub board_computed : Unit {0}
-unfolding senders_computed stand closing told is_running looked_at reached fits runs start_tests start_refusal fresh started hears pulsed at_stand answered
+unfolding senders_computed stand closing told is_running looked_at reached fits runs or_else start_tests start_cause start_refusal fresh first_stage started hears pulsed at_stand answered
 board_computed = tt
 
 -- with many closes at once
 unfoldable computed : Unit {0}
-unfolding board_computed end_of closings jumped wall drifting state
+unfolding board_computed end_of due_by closings jumped wall drifting state
 computed = tt
 
 pub start_cases : StartCases

@@ -1,9 +1,10 @@
 -- The tile at numbers, with unit 12 and hold 400. Each statement is proved in proofs/Cases.antt, under its name in small letters. Assumes
 -- nothing.
-use Rattle.std.specs.Prelude.{◌≡◌, true, false, List, [], ◌∷◌, map, ℕ, suc, ◌+◌, ◌-◌, ◌^◌}
+use Rattle.std.specs.Prelude.{◌≡◌, true, false, List, [], ◌∷◌, map, ℕ, suc, ◌+◌, ◌-◌, ◌^◌, Some, None}
 use Rattle.senders.specs.Senders.{last}
 use Rattle.settings.specs.Settings.{settings}
 use Rattle.settings.specs.declared.Settings.{Settings}
+use Rattle.settings.specs.declared.refusal.Refusal.TheVariants.{Stamp, Sender}
 use Rattle.rule.specs.Stamp.{silence}
 use Rattle.board.specs.Stand.{stand}
 use Rattle.board.specs.State.{start_refusal, started, pulsed, shut_many, closed, closed_many}
@@ -41,7 +42,7 @@ FreshCase = (started wall 3 7).board ≡ state 3 (silence ∷ silence ∷ silenc
 
 -- §E5.1 one that is turned away is over
 unfoldable pub RefusedCase : Type 0
-RefusedCase = started wall 2 (2 ^ 41) ≡ record { number = 12; board = state 2 (silence ∷ silence ∷ silence ∷ silence ∷ []) (2 ^ 41) stage.Ended }
+RefusedCase = started wall 2 (2 ^ 41) ≡ record { refusal = Some Stamp; board = state 2 (silence ∷ silence ∷ silence ∷ silence ∷ []) (2 ^ 41) stage.Ended }
 
 infix 70 ◌at◌
 -- §E5.6 a pulse of a sender at a reading
@@ -136,11 +137,11 @@ ToldCases =
 unfoldable pub SenderCases : Type 0
 SenderCases =
     let two = (started wall 2 0).board in
-    ((pulsed two 2).number ≡ 0)
-    × (pulsed two 3 ≡ record { number = 54; repeat = false; board = two })
-    × ((pulsed (started wall 3 0).board 3).number ≡ 0)
-    × ((pulsed (started wall 3 0).board 4).number ≡ 54)
-    × ((pulsed two (2 ^ 64 - 1)).number ≡ 54)
+    ((pulsed two 2).refusal ≡ None)
+    × (pulsed two 3 ≡ record { refusal = Some Sender; repeat = false; board = two })
+    × ((pulsed (started wall 3 0).board 3).refusal ≡ None)
+    × ((pulsed (started wall 3 0).board 4).refusal ≡ Some Sender)
+    × ((pulsed two (2 ^ 64 - 1)).refusal ≡ Some Sender)
 
 -- §E5.4 once it has pulsed: repeats, first pulses and wrong senders are ignored, and it pulses no more
 unfoldable pub OverCases : Type 0
@@ -148,9 +149,9 @@ OverCases =
     let b = state 2 (100 ∷ 100 ∷ silence ∷ silence ∷ []) 500 stage.Running in
     let over = state 2 (100 ∷ 100 ∷ silence ∷ silence ∷ []) 500 stage.Pulsed in
     (closed b ≡ record { answer = answer.Pulsed; board = over })
-    × (pulsed over 1 ≡ record { number = 0; repeat = false; board = over })
-    × (pulsed over 2 ≡ record { number = 0; repeat = false; board = over })
-    × (pulsed over 3 ≡ record { number = 0; repeat = false; board = over })
+    × (pulsed over 1 ≡ record { refusal = None; repeat = false; board = over })
+    × (pulsed over 2 ≡ record { refusal = None; repeat = false; board = over })
+    × (pulsed over 3 ≡ record { refusal = None; repeat = false; board = over })
     × (closed over ≡ record { answer = answer.Done; board = over })
     × (closed_many b 9 ≡ record { answer = answer.Pulsed; board = over })
     × (closed_many b 0 ≡ record { answer = answer.Waits; board = b })
@@ -167,6 +168,6 @@ LastCases =
     × (closed (late 400 last stage.Running) ≡ record { answer = answer.Pulsed; board = late 400 last stage.Pulsed })
     × (closed (late 399 last stage.Running) ≡ record { answer = answer.Done; board = late 399 last stage.Ended })
     × (closed_many (late 399 (last - 7) stage.Running) (2 ^ 64 - 1) ≡ record { answer = answer.Done; board = late 399 last stage.Ended })
-    × (pulsed (late 399 last stage.Ended) 0 ≡ record { number = 0; repeat = false; board = late 399 last stage.Ended })
-    × ((pulsed (late 399 last stage.Ended) 9).number ≡ 0)
+    × (pulsed (late 399 last stage.Ended) 0 ≡ record { refusal = None; repeat = false; board = late 399 last stage.Ended })
+    × ((pulsed (late 399 last stage.Ended) 9).refusal ≡ None)
     × (last ≡ 2 ^ 42 - 1)

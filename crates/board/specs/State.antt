@@ -1,7 +1,9 @@
 -- What each operation makes of any state. Assumes nothing.
-use Rattle.std.specs.Prelude.{Bool, false, cond, not, ◌&&◌, List, [], ◌∷◌, ℕ, zero, suc, eqb, leb, ltb}
-use Rattle.settings.specs.Refusal.{Test, first, ◌when◌, outside}
-use Rattle.settings.specs.Settings.{settings_refusal}
+use Rattle.std.specs.Prelude.{Bool, false, cond, ◌&&◌, List, [], ◌∷◌, ℕ, zero, suc, eqb, leb, ltb, Option, Some, None}
+use Rattle.settings.specs.Refusal.{Test, first, ◌when◌, or_else, refused, outside}
+use Rattle.settings.specs.Settings.{settings_cause, settings_refusal}
+use Rattle.settings.specs.declared.refusal.Refusal.{Refusal}
+use Rattle.settings.specs.declared.refusal.Refusal.TheVariants.{Neighbours, Stamp, Sender}
 use Rattle.settings.specs.declared.Settings.{Settings}
 use Rattle.rule.specs.Stamp.{latest_stamp}
 use Rattle.senders.specs.Due.{reaches}
@@ -12,6 +14,7 @@ use Rattle.board.specs.declared.Started.{Started}
 use Rattle.board.specs.declared.Heard.{Heard}
 use Rattle.board.specs.declared.Closed.{Closed}
 use Rattle.board.specs.declared.stand.Stand.{Stand}
+use Rattle.board.specs.declared.stand.Stage.{Stage}
 use Rattle.board.specs.declared.stand.Stage.TheVariants.{Running, Ended}
 use Rattle.board.specs.declared.stand.Answer.TheVariants.{Done}
 
@@ -31,41 +34,45 @@ fits b = eqb (settings_refusal b.settings) 0 && fit b.senders && leb b.stand.rea
 unfoldable pub runs : Board → Bool
 runs b = is_running b.stand.stage && fits b
 
--- §E5.1 the settings' number, then 11 and 12
-unfoldable pub start_tests : Settings → (count reading : ℕ) → List Test
-start_tests s n v =
-    settings_refusal s when not (eqb (settings_refusal s) 0)
-    ∷ 11 when outside 2 3 n
-    ∷ 12 when ltb latest_stamp v
-    ∷ []
+-- §E5.1 11 and 12
+unfoldable pub start_tests : (count reading : ℕ) → List Test
+start_tests n v = Neighbours when outside 2 3 n ∷ Stamp when ltb latest_stamp v ∷ []
 
--- §E5.1 the number under which a start is turned away, 0 where it is accepted
+-- §E5.1 why a start is turned away: what the settings are turned away with, then 11 and 12
+unfoldable pub start_cause : Settings → (count reading : ℕ) → Option Refusal
+start_cause s n v = or_else (settings_cause s) (first (start_tests n v))
+
+-- §E5.1 its number, 0 where a start is accepted
 unfoldable pub start_refusal : Settings → (count reading : ℕ) → ℕ
-start_refusal s n v = first (start_tests s n v)
+start_refusal s n v = refused (start_cause s n v)
 
 -- §E5.1 nothing heard so far, at a stand
 unfoldable pub fresh : Settings → (count : ℕ) → Stand → Board
 fresh s n x = record { settings = s; senders = unheard_all n; stand = x }
 
+-- §E5.1 the run of a tile that is turned away is over
+unfoldable pub first_stage : (cause : Option Refusal) → Stage
+first_stage None = Running
+first_stage (Some why) = Ended
+
 -- §E5.1 the first reading is open; a tile that is turned away takes no event
 unfoldable pub started : Settings → (count reading : ℕ) → Started
 started s n v =
-    cond (eqb (start_refusal s n v) 0)
-    (record { number = 0; board = fresh s n (stand v Running) })
-    (record { number = start_refusal s n v; board = fresh s n (stand v Ended) })
+    let cause = start_cause s n v in
+    record { refusal = cause; board = fresh s n (stand v (first_stage cause)) }
 
 -- §E5.2 a pulse from a sender, heard at the open reading
 unfoldable pub hears : Board → (sender : ℕ) → Board
 hears b k = record { settings = b.settings; senders = heard_by b.senders k b.stand.reading; stand = b.stand }
 
--- §E5.2 a pulse: its number, whether it is a repeat, and the state after it. 54 leaves that, and so does any pulse once the run is over (§E5.4)
+-- §E5.2 a pulse: why it is turned away, whether it is a repeat, and the state after it. 54 leaves that, and so does any pulse once the run is over (§E5.4)
 unfoldable pub pulsed : Board → (sender : ℕ) → Heard
 pulsed b k =
     cond (runs b)
     (cond (ltb b.senders.count k)
-    (record { number = 54; repeat = false; board = b })
-    (record { number = 0; repeat = is_heard b.senders k; board = hears b k }))
-    (record { number = 0; repeat = false; board = b })
+    (record { refusal = Some Sender; repeat = false; board = b })
+    (record { refusal = None; repeat = is_heard b.senders k; board = hears b k }))
+    (record { refusal = None; repeat = false; board = b })
 
 -- §E5.3 the tile at a stand
 unfoldable pub at : Board → Stand → Board

@@ -5,11 +5,13 @@
 pub mod stand;
 
 ghost use Rattle.std.specs.Prelude.{◌≡◌};
-ghost use Rattle.board.specs.State.{fits, runs, started, start_refusal, pulsed, closed, closed_many};
+ghost use Rattle.settings.specs.Refusal.{answer};
+ghost use Rattle.board.specs.State.{fits, runs, started, start_cause, pulsed, closed, closed_many};
 
 use rule::forwarding;
 use senders::{LAST, Senders};
 use settings::Settings;
+use settings::refusal::Refusal;
 use stand::{Answer, Stage, Stand, closings};
 
 #[derive(Clone, Copy)]
@@ -19,17 +21,19 @@ pub struct Board {
     pub stand: Stand,
 }
 
+// No Result: `RefusedOver` speaks of the state of a start that is turned away.
 #[derive(Clone, Copy)]
 pub struct Started {
-    // 0, or 1 to 9, 11 or 12; the state then takes no event.
-    pub number: u32,
+    // 1 to 9, 11 or 12; the state then takes no event.
+    pub refusal: Option<Refusal>,
     pub board: Board,
 }
 
+// No Result: `WrongKept` speaks of the state after a pulse that is turned away.
 #[derive(Clone, Copy)]
 pub struct Heard {
-    // 0, or 54; the state is then what it was.
-    pub number: u32,
+    // 54; the state is then what it was.
+    pub refusal: Option<Refusal>,
     // Whether it was a repeat: from a sender that was heard before, while the tile runs.
     pub repeat: bool,
     pub board: Board,
@@ -46,30 +50,16 @@ impl Board {
     pub fn start(settings: Settings, count: u64, reading: u64) -> Started
         ensures { result ≡ started settings count reading }
     {
-        let senders = Senders::unheard_of(count);
-        let number = start_refusal(settings, count, reading);
-        if number == 0 {
-            return Started {
-                number,
-                board: Board {
-                    settings,
-                    senders,
-                    stand: Stand {
-                        reading,
-                        stage: Stage::Running,
-                    },
-                },
-            };
-        }
+        let (refusal, stage) = match check_start(settings, count, reading) {
+            Ok(()) => (None, Stage::Running),
+            Err(why) => (Some(why), Stage::Ended),
+        };
         Started {
-            number,
+            refusal,
             board: Board {
                 settings,
-                senders,
-                stand: Stand {
-                    reading,
-                    stage: Stage::Ended,
-                },
+                senders: Senders::unheard_of(count),
+                stand: Stand { reading, stage },
             },
         }
     }
@@ -78,32 +68,28 @@ impl Board {
     pub fn pulse(self, sender: u64) -> Heard
         ensures { result ≡ pulsed self sender }
     {
-        if self.runs() {
-            let settings = self.settings;
-            let senders = self.senders;
-            let stand = self.stand;
-            if senders.count < sender {
-                return Heard {
-                    number: 54,
-                    repeat: false,
-                    board: self,
-                };
-            }
-            let place = sender as usize;
+        if !self.runs() {
             return Heard {
-                number: 0,
-                repeat: senders.heard(place),
-                board: Board {
-                    settings,
-                    senders: senders.hear(place, stand.reading),
-                    stand,
-                },
+                refusal: None,
+                repeat: false,
+                board: self,
             };
         }
+        if self.senders.count < sender {
+            return Heard {
+                refusal: Some(Refusal::Sender),
+                repeat: false,
+                board: self,
+            };
+        }
+        let place = sender as usize;
         Heard {
-            number: 0,
-            repeat: false,
-            board: self,
+            refusal: None,
+            repeat: self.senders.heard(place),
+            board: Board {
+                senders: self.senders.hear(place, self.stand.reading),
+                ..self
+            },
         }
     }
 
@@ -118,64 +104,46 @@ impl Board {
     pub fn close_many(self, n: u64) -> Closed
         ensures { result ≡ closed_many self n }
     {
-        if self.runs() {
-            let settings = self.settings;
-            let senders = self.senders;
-            let stand = closings(senders.due(settings), self.stand.reading, n);
+        if !self.runs() {
             return Closed {
-                answer: stand.told(),
-                board: Board {
-                    settings,
-                    senders,
-                    stand,
-                },
+                answer: Answer::Done,
+                board: self,
             };
         }
+        let stand = closings(self.senders.due(self.settings), self.stand.reading, n);
         Closed {
-            answer: Answer::Done,
-            board: self,
+            answer: stand.told(),
+            board: Board { stand, ..self },
         }
     }
 
     // Whether it takes events: the state fits, and the run is not over.
+    #[tactic(auto, unfolding(crate::specs::State::runs, crate::specs::Stand::is_running))]
     fn runs(self) -> bool
         ensures { result ≡ runs self }
     {
-        let stand = self.stand;
-        let stage = stand.stage;
-        match stage {
-            Stage::Running => self.fits(),
-            Stage::Pulsed => false,
-            Stage::Ended => false,
-        }
+        matches!(self.stand.stage, Stage::Running) && self.fits()
     }
 
     // Whether the settings pass, the senders fit, and the reading is one that opens.
     pub fn fits(self) -> bool
         ensures { result ≡ fits self }
     {
-        let number = self.settings.refusal();
-        let senders = self.senders;
-        (number == 0) & senders.fit() & (self.stand.reading <= LAST)
+        self.settings.check().is_ok() && self.senders.fit() && self.stand.reading <= LAST
     }
 }
 
-// The number under which a start is turned away, or 0.
-fn start_refusal(settings: Settings, count: u64, reading: u64) -> u32
-    ensures { result ≡ start_refusal settings count reading }
+// Why a start is turned away.
+#[tactic(auto, unfolding(settings::specs::Refusal::answer, settings::specs::Refusal::or_else, settings::specs::Refusal::first, settings::specs::Refusal::outside, crate::specs::State::start_tests, crate::specs::State::start_cause))]
+fn check_start(settings: Settings, count: u64, reading: u64) -> Result<(), Refusal>
+    ensures { result ≡ answer (start_cause settings count reading) tt }
 {
-    let number = settings.refusal();
-    if number != 0 {
-        return number;
-    }
-    if count < 2 {
-        return 11;
-    }
-    if 3 < count {
-        return 11;
+    settings.check()?;
+    if !(2..=3).contains(&count) {
+        return Err(Refusal::Neighbours);
     }
     if forwarding::LATEST < reading {
-        return 12;
+        return Err(Refusal::Stamp);
     }
-    0
+    Ok(())
 }

@@ -5,7 +5,6 @@ ghost use Rattle.board.specs.Stand.{told};
 ghost use Rattle.board.specs.Closing.{closings};
 
 use senders::LAST;
-use settings::rounding::{larger, smaller};
 
 #[derive(Clone, Copy)]
 pub struct Stand {
@@ -33,38 +32,40 @@ pub enum Answer {
     Done,
 }
 
-// After so many closes from an open reading, for a pulse that is due at a reading.
-pub fn closings(due: u64, reading: u64, n: u64) -> Stand
+// After so many closes from an open reading, for a pulse that is due at a reading, or at none.
+#[tactic(auto, unfolding(crate::specs::Closing::closings, crate::specs::Closing::end_of, crate::specs::Closing::due_by, crate::specs::Stand::stand))]
+pub fn closings(due: Option<u64>, reading: u64, n: u64) -> Stand
     requires { reading ≤ last }
     ensures { result ≡ closings due reading n }
 {
     // The reading whose close ends the run.
-    let end = smaller(larger(reading, due), LAST);
+    let end = match due {
+        Some(due) => reading.max(due).min(LAST),
+        None => LAST,
+    };
     if n <= end - reading {
         return Stand {
             reading: reading + n,
             stage: Stage::Running,
         };
     }
-    if due <= end {
-        return Stand {
-            reading: end,
-            stage: Stage::Pulsed,
-        };
-    }
+    let stage = match due {
+        Some(due) if due <= end => Stage::Pulsed,
+        _ => Stage::Ended,
+    };
     Stand {
         reading: end,
-        stage: Stage::Ended,
+        stage,
     }
 }
 
 impl Stand {
     // What closes answer that come here from an open reading.
+    #[tactic(auto, unfolding(crate::specs::Stand::told))]
     pub fn told(self) -> Answer
         ensures { result ≡ told self.stage }
     {
-        let stage = self.stage;
-        match stage {
+        match self.stage {
             Stage::Running => Answer::Waits,
             Stage::Pulsed => Answer::Pulsed,
             Stage::Ended => Answer::Done,

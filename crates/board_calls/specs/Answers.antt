@@ -1,22 +1,29 @@
 -- What each function answers and leaves, by the words of the state: the number, and what is lent to be written, which a refusal leaves as
 -- it was. Assumes nothing.
-use Rattle.std.specs.Prelude.{cond, List, ℕ, eqb}
+use Rattle.std.specs.Prelude.{cond, List, ℕ, Option, Some, None}
+use Rattle.settings.specs.Refusal.{refused}
 use Rattle.settings.specs.declared.Settings.{Settings}
+use Rattle.settings.specs.declared.refusal.Refusal.{Refusal}
 use Rattle.layout.specs.Words.{unfit}
 use Rattle.counted.specs.State.{started, pulsed, closed, closed_many}
 use Rattle.board_calls.specs.Words.{answer_word, tile_in, tile_words, fits_in}
 
+-- §E5.9 the words of a state, which a refusal does not write
+unfoldable pub unless_refused : Option Refusal → (words held : List ℕ) → List ℕ
+unless_refused None ws held = ws
+unless_refused (Some r) ws held = held
+
 -- §E5.9 0, or 1 to 9, 11 or 12
 unfoldable pub start_number : Settings → (count reading : ℕ) → ℕ
-start_number s n v = (started s n v).number
+start_number s n v = refused (started s n v).refusal
 
 -- §E5.9 the state of a start, which a refusal does not write
 unfoldable pub start_left : Settings → (count reading : ℕ) → (held : List ℕ) → List ℕ
-start_left s n v held = cond (eqb (started s n v).number 0) (tile_words (started s n v).tile) held
+start_left s n v held = unless_refused (started s n v).refusal (tile_words (started s n v).tile) held
 
 -- §E5.9 0 or 54; a state that no start left is unfit
 unfoldable pub pulse_number : (words : List ℕ) → (sender : ℕ) → ℕ
-pulse_number ws k = cond (fits_in ws) (pulsed (tile_in ws) k).number unfit
+pulse_number ws k = cond (fits_in ws) (refused (pulsed (tile_in ws) k).refusal) unfit
 
 -- §E5.9 the state after a pulse
 unfoldable pub pulse_left : (words : List ℕ) → (sender : ℕ) → List ℕ

@@ -3,28 +3,29 @@
 #![tactic(auto)]
 
 ghost use Rattle.std.specs.Prelude.{◌≡◌};
-ghost use Rattle.layout.specs.Words.{settings_from};
 ghost use Rattle.board_calls.specs.Words.{stage_in, stage_word, answer_word, senders_in, tile_in, tile_words, fits_in};
 ghost use Rattle.board_calls.specs.Answers.{start_number, start_left, pulse_number, pulse_left, close_number, close_left, close_answer, many_left, many_answer};
 
 use board::Board;
 use board::stand::{Answer, Stage, Stand};
 use counted::Counted;
-use layout::UNFIT;
+use layout::{UNFIT, settings_from};
 use senders::Senders;
 use settings::Settings;
 
+#[tactic(auto, unfolding(crate::specs::Answers::unless_refused, crate::specs::Answers::start_number, crate::specs::Answers::start_left))]
 pub fn start(settings: Settings, count: u64, reading: u64, words: &mut [u64; 18]) -> u32
     ensures number { result ≡ start_number settings count reading }
     ensures words { words.new ≡ start_left settings count reading words.old }
 {
     let started = Counted::start(settings, count, reading);
-    let number = started.number;
-    if number != 0 {
-        return number;
+    match started.refusal {
+        Some(refusal) => refusal.number(),
+        None => {
+            *words = tile_words(started.tile);
+            0
+        }
     }
-    *words = tile_words(started.tile);
-    0
 }
 
 pub fn pulse(words: &mut [u64; 18], sender: u64) -> u32
@@ -35,7 +36,10 @@ pub fn pulse(words: &mut [u64; 18], sender: u64) -> u32
         let tile = tile_in(words);
         let heard = tile.pulse(sender);
         *words = tile_words(heard.tile);
-        return heard.number;
+        return match heard.refusal {
+            Some(refusal) => refusal.number(),
+            None => 0,
+        };
     }
     UNFIT
 }
@@ -80,7 +84,7 @@ fn tile_in(words: &[u64; 18]) -> Counted
 {
     Counted {
         board: Board {
-            settings: settings_in(words),
+            settings: settings_from(words, 0),
             senders: senders_in(words),
             stand: Stand {
                 reading: words[16],
@@ -88,20 +92,6 @@ fn tile_in(words: &[u64; 18]) -> Counted
             },
         },
         repeats: [words[12], words[13], words[14], words[15]],
-    }
-}
-
-fn settings_in(words: &[u64; 18]) -> Settings
-    ensures { result ≡ settings_from 0 words.now }
-{
-    Settings {
-        width: words[0],
-        rows: words[1],
-        delay: words[2],
-        uncertainty: words[3],
-        hold: words[4],
-        drift: words[5],
-        unit: words[6],
     }
 }
 

@@ -5,12 +5,12 @@ use mathlib.Core.List.{List, [], ◌++◌, append_assoc}
 use Prim.Native.Nat.{ℕ, zero, suc, ◌+◌, ◌≤◌}
 use lib.ListN.{replicate}
 use native.Mathlib.Omega.{arith}
-use borrow.Author.Tests.{eq-eqb}
+use Rattle.std.specs.Prelude.{None}
 use Rattle.settings.specs.declared.Settings.{Settings}
 use Rattle.rule.specs.Stamp.{silence, code_of}
 use Rattle.senders.specs.Senders.{unheard_all}
 use Rattle.board.specs.Stand.{stand, told, is_running}
-use Rattle.board.specs.State.{runs, start_refusal, fresh, started, answered, closed, closed_many, shut as shut_once, shut_many as shut_often}
+use Rattle.board.specs.State.{runs, start_cause, fresh, first_stage, started, answered, closed, closed_many, shut as shut_once, shut_many as shut_often}
 use Rattle.board.specs.declared.Board.{Board}
 use Rattle.board.specs.declared.Started.{Started}
 use Rattle.board.specs.declared.Closed.{Closed}
@@ -23,7 +23,7 @@ use Rattle.board.proofs.Laws.State.{shut_over, many_over}
 use Rattle.settings.specs.Limits.{SettingsPlain}
 use Rattle.settings.proofs.Limits.{settings_plain}
 use Rattle.board.specs.Promises.{StartPlain}
-use Rattle.board.proofs.Promises.{number_is, start_plain}
+use Rattle.board.proofs.Promises.{start_plain}
 use Rattle.board_runs.specs.Reading.{closes, first_pulse, senders_of, Run, run, run_from, run_of, board_of}
 use Rattle.board_runs.specs.Program.{Call, Calls, none, hear, shut, shut_many, all_events, answer_in, CallsRead, CallsFit, pulsed_once, times_pulsed, PulsesOnce}
 use Rattle.board_runs.specs.Promises.{full_due, InTime, PulsesInTime, ToldInTime}
@@ -34,11 +34,11 @@ use Rattle.board_runs.proofs.Laws.Calls.{inside as stays_inside, ReadOn, answer_
 use Rattle.board_runs.proofs.Laws.InTime.{begun, runs_on}
 
 -- what a start that is accepted leaves
-module _ (s : Settings) (n v : ℕ) (z : start_refusal s n v ≡ 0) where
+module _ (s : Settings) (n v : ℕ) (z : start_cause s n v ≡ None) where
   pub accepts : Accepted s n v
-  unfolding StartPlain SettingsPlain
+  unfolding StartPlain SettingsPlain started
   accepts =
-      let (l, i, k, m) = (start_plain s n v).1 (number_is s n v ∙ z) in
+      let (l, i, k, m) = (start_plain s n v).1 z in
       record { checked = (settings_plain s).0 l; two = i; three = k; early = omega (arith, m) }
 
   pub starts_as : fresh s n (stand v stage.Running) ≡ board_of s n v (run_of s n v [])
@@ -47,13 +47,14 @@ module _ (s : Settings) (n v : ℕ) (z : start_refusal s n v ≡ 0) where
       let e : v + 0 ≡ v = omega arith in
       rw (e, places_none n silence (λ k. code_of (first_pulse v k [])) (λ k. refl))
 
-module _ (s : Settings) (n v : ℕ) (r : Started) (e : r ≡ started s n v) (z : r.number ≡ 0) where
-  pub not_refused : start_refusal s n v ≡ 0
-  not_refused = sym (number_is s n v) ∙ ap (λ (x : Started). x.number) (sym e) ∙ z
+module _ (s : Settings) (n v : ℕ) (r : Started) (e : r ≡ started s n v) (z : r.refusal ≡ None) where
+  pub not_refused : start_cause s n v ≡ None
+  unfolding started
+  not_refused = ap (λ (x : Started). x.refusal) (sym e) ∙ z
 
   pub left_open : r.board ≡ fresh s n (stand v stage.Running)
-  unfolding started
-  left_open = rw (e, eq-eqb (start_refusal s n v) 0 not_refused)
+  unfolding started first_stage
+  left_open = rw (e, not_refused)
 
   read_from : {cs : List Call} {t : Board} → Calls r.board cs t → ReadOn (accepts s n v not_refused) [] cs t
   read_from c = reads_on (accepts s n v not_refused) [] (left_open ∙ starts_as s n v not_refused) c

@@ -1,6 +1,6 @@
 -- What is promised of the tile as it runs, beside what specs/Program.antt states. Each statement is proved in proofs/Promises.antt, under its
 -- name in small letters. Assumes nothing.
-use Rattle.std.specs.Prelude.{◌≡◌, List, ◌++◌, ℕ, ◌+◌, ◌*◌, ◌≤◌, ◌<◌, replicate}
+use Rattle.std.specs.Prelude.{◌≡◌, List, ◌++◌, ℕ, ◌+◌, ◌*◌, ◌≤◌, ◌<◌, replicate, None}
 use Rattle.senders.specs.Due.{due}
 use Rattle.settings.specs.declared.Settings.{Settings}
 use Rattle.rule.specs.Stamp.{latest_stamp}
@@ -43,13 +43,13 @@ InTime s n v cs t =
 -- §E5.7 so it is after any calls from a start
 unfoldable pub PulsesInTime : Type 0
 PulsesInTime =
-    (s : Settings) (n v : ℕ) (r : Started) (cs : List Call) (t : Board) → r ≡ started s n v → r.number ≡ 0 → Calls r.board cs t → InTime s n v cs t
+    (s : Settings) (n v : ℕ) (r : Started) (cs : List Call) (t : Board) → r ≡ started s n v → r.refusal ≡ None → Calls r.board cs t → InTime s n v cs t
 
 -- §E5.7 and so it is told: closes wait before that reading is closed, pulse where they close it, and are done after it
 unfoldable pub ToldInTime : Type 0
 ToldInTime =
     (s : Settings) (n v : ℕ) (r : Started) (cs : List Call) (t : Board) (later : List Event) (k : ℕ) (q : Closed) →
-    r ≡ started s n v → r.number ≡ 0 → Calls r.board cs t → q ≡ closed_many t k →
+    r ≡ started s n v → r.refusal ≡ None → Calls r.board cs t → q ≡ closed_many t k →
     let es = all_events cs ++ (replicate k close ++ later) in
     let y = v + closes (all_events cs) in
     Correct s n v es →

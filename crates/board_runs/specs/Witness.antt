@@ -1,6 +1,6 @@
 -- Calls of which specs/Promises.antt speaks, with unit 2 and hold 32, and such as it does not speak of. Each statement is proved in proofs/Witness.antt, under its name in small
 -- letters. Assumes nothing.
-use Rattle.std.specs.Prelude.{◌≡◌, List, [], ◌∷◌, ℕ}
+use Rattle.std.specs.Prelude.{◌≡◌, List, [], ◌∷◌, ℕ, None}
 use Rattle.settings.specs.Settings.{settings}
 use Rattle.settings.specs.declared.Settings.{Settings}
 use Rattle.rule.specs.Stamp.{heard, silent, silence}
@@ -24,13 +24,13 @@ state s xs v = record { settings = s; senders = record { count = 2; stamps = xs 
 -- §E5.7 neighbour 1 at 0 and own at 14, which is A - 9h later; neighbour 2 is faulty and comes at 60, long after the tile's pulse at 46
 unfoldable pub late_calls : List Call
 late_calls =
-    pulses 1 0
+    pulses 1 None
     ∷ closes_many 14 Waits
-    ∷ pulses 0 0
+    ∷ pulses 0 None
     ∷ closes_many 32 Waits
     ∷ closes_one Pulsed
     ∷ closes_many 13 Done
-    ∷ pulses 2 0
+    ∷ pulses 2 None
     ∷ []
 
 -- §E5.7 such calls there are: P is 14 by the stamps 14, 0 and 60
@@ -43,7 +43,7 @@ LateMet =
 
 -- §E5.7 both neighbours at 0, and own never: P is 6, and the tile pulses at 38
 unfoldable pub silent_calls : List Call
-silent_calls = pulses 2 0 ∷ pulses 1 0 ∷ closes_many 38 Waits ∷ closes_one Pulsed ∷ []
+silent_calls = pulses 2 None ∷ pulses 1 None ∷ closes_many 38 Waits ∷ closes_one Pulsed ∷ []
 
 -- §E5.7 such calls there are
 unfoldable pub SilentMet : Type 0
@@ -59,7 +59,7 @@ longer = settings 6 1 1 0 45 0 2
 
 -- §E5.7 neighbour 1 at 0 and own at 35, which is A - 5h later; neighbour 2 is faulty and comes at 80
 unfoldable pub far_calls : List Call
-far_calls = pulses 1 0 ∷ closes_many 35 Waits ∷ pulses 0 0 ∷ closes_many 45 Waits ∷ pulses 2 0 ∷ closes_one Pulsed ∷ []
+far_calls = pulses 1 None ∷ closes_many 35 Waits ∷ pulses 0 None ∷ closes_many 45 Waits ∷ pulses 2 None ∷ closes_one Pulsed ∷ []
 
 -- §E5.7 stamps so far apart are too far: P + A is 79 by the full stamps, and the tile waits at the close of 79 and pulses at that of 80
 unfoldable pub FartherMet : Type 0

@@ -7,9 +7,9 @@ use native.Mathlib.Omega.{arith}
 use Rattle.settings.specs.Settings.{settings_refusal}
 use Rattle.settings.specs.declared.Settings.{Settings}
 use Rattle.runs.specs.Reach.{widest_gap}
-use Rattle.reach.specs.Survey.{surveyed_of, last_reach, largest_of}
+use Rattle.reach.specs.Survey.{surveyed, surveyed_of, last_reach, largest_of}
 use Rattle.reach.proofs.Laws.Survey.{row_surveyed}
-use Rattle.calls.specs.Answers.{survey_left}
+use Rattle.calls.specs.Answers.{left_within, survey_left}
 use Rattle.calls.specs.Promises.{surveys, OfWall, SurveysLargest}
 
 module _ (s : Settings) (ok : settings_refusal s ≡ 0) where
@@ -19,7 +19,7 @@ module _ (s : Settings) (ok : settings_refusal s ≡ 0) where
 
   one : (l b m : ℕ) (ts : List ℕ) → l < s.rows → OfWall s ts →
       survey_left (surveyed_of s l m ts) (l ∷ b ∷ m ∷ []) ≡ (l + 1) ∷ widest_gap s.width ts ∷ max m (last_reach s l ts) ∷ []
-  unfolding survey_left
+  unfolding survey_left left_within surveyed
   one l b m ts i w = rw (row_surveyed s ok l m ts i w.long w.early)
 
   from : (l b m : ℕ) (rs : List (List ℕ)) → l + length rs ≤ s.rows → ((f : ℕ) → f < length rs → OfWall s (get_or rs f [])) →

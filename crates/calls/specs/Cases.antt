@@ -3,18 +3,18 @@
 use Rattle.std.specs.Prelude.{◌≡◌, Bool, true, false, List, [], ◌∷◌, map, ℕ, ℤ, pos, negsuc, Float, replicate, get_or}
 use Rattle.std.specs.Float.{binary64}
 use Rattle.std.specs.Float.Ieee.{to_bits}
+use Rattle.settings.specs.Refusal.{number_in}
 use Rattle.settings.specs.declared.Settings.{Settings}
-use Rattle.tile.specs.Tile.{forwarded, number_of as tile_number}
+use Rattle.tile.specs.Tile.{forwarded}
 use Rattle.admission.specs.Call.{call}
-use Rattle.row.specs.Row.{planned, written, lettered, number_of as row_number}
-use Rattle.seam.specs.Seam.{seam_of, number_of as seam_number}
+use Rattle.row.specs.Row.{planned, written, lettered}
+use Rattle.seam.specs.Seam.{seam_of}
 use Rattle.reach.specs.Search.{gap_of, reach_of, reach_in_row}
 use Rattle.reach.specs.Survey.{surveyed_of}
-use Rattle.reach.specs.Answers.{gap_number}
 use Rattle.places.specs.Seams.{columns_of, seam_at}
 use Rattle.places.specs.Marks.{mark_of}
 use Rattle.places.specs.Links.{link_of}
-use Rattle.wide.specs.Wide.{first_wide, number_of as wide_number}
+use Rattle.wide.specs.Wide.{first_wide}
 use Rattle.layout.specs.Words.{settings_from, stamps_in}
 use Rattle.calls.specs.Answers.{forwarded_left, ends_left, side_left, halves_left, gap_left, reach_number, reach_left, survey_number, survey_left, columns_number, columns_left, row_seam_number, row_seam_columns, row_seam_side, row_seam_halves, mark_number, mark_left, link_number, link_left, wide_found, wide_left}
 
@@ -25,7 +25,7 @@ wall_settings = settings_from 0 (6 ∷ 1 ∷ 100 ∷ 10 ∷ 400 ∷ 0 ∷ 12 ∷
 -- §17.1 polzaintu_tile: own, three neighbours and the count; its number, and p, correction, corrected, letter
 unfoldable pub Tile : (stamps : List ℕ) → (number : ℕ) → (answer : List ℤ) → Type 0
 Tile ws n a =
-    (tile_number (forwarded wall_settings (stamps_in ws)) ≡ n)
+    (number_in (forwarded wall_settings (stamps_in ws)) ≡ n)
     × (forwarded_left (forwarded wall_settings (stamps_in ws)) (pos 7 ∷ pos 8 ∷ pos 9 ∷ pos 10 ∷ []) ≡ a)
 
 -- §17.1 stamps of each kind and letter, and 11, 12 and 13, which leave the answer as it was
@@ -50,7 +50,7 @@ row_0 = 1000 ∷ 1000 ∷ 1000 ∷ 1080 ∷ 1000 ∷ 1000 ∷ []
 unfoldable pub Planned : (phase link : ℕ) → (number : ℕ) → (times letters ends : List ℕ) → Type 0
 Planned q v n times letters ends =
     let x = call (0 ∷ []) (replicate 6 0) (q ∷ replicate 5 0) (v ∷ replicate 19 100) 6 6 in
-    (row_number (planned wall_settings row_0 x) ≡ n)
+    (number_in (planned wall_settings row_0 x) ≡ n)
     × (written wall_settings row_0 x (replicate 6 7) ≡ times)
     × (lettered wall_settings row_0 x (replicate 6 7) ≡ letters)
     × (ends_left (planned wall_settings row_0 x) (7 ∷ 8 ∷ []) ≡ ends)
@@ -69,7 +69,7 @@ held_halves = halves_left (seam_of 1 false 2 false) []
 -- §17.1 polzaintu_seam: the number, the side, and the bits of midpoint and half gap
 unfoldable pub Seam : (left : ℕ) (left_faulty : Bool) (right : ℕ) (right_faulty : Bool) → (number side midpoint half_gap : ℕ) → Type 0
 Seam l lf r rf n s m g =
-    (seam_number (seam_of l lf r rf) ≡ n)
+    (number_in (seam_of l lf r rf) ≡ n)
     × (side_left (seam_of l lf r rf) 7 ≡ s)
     × (map (to_bits binary64) (halves_left (seam_of l lf r rf) held_halves) ≡ m ∷ g ∷ [])
 
@@ -84,7 +84,7 @@ SeamCases =
 
 -- §17.1 polzaintu_widest_gap: the number, and B
 unfoldable pub Widest : (row : List ℕ) → (number gap : ℕ) → Type 0
-Widest ts n b = (gap_number (gap_of wall_settings ts) ≡ n) × (gap_left (gap_of wall_settings ts) 7 ≡ b)
+Widest ts n b = (number_in (gap_of wall_settings ts) ≡ n) × (gap_left (gap_of wall_settings ts) 7 ≡ b)
 
 -- §17.1 a row, and 21
 unfoldable pub WidestCases : Type 0
@@ -182,7 +182,7 @@ LinkCases = LinkAt 2 3 0 9 × LinkAt 5 5 0 19 × LinkAt 2 4 4294967295 7
 unfoldable pub FirstWide : (times : List ℕ) → (limit : ℕ) (held : Bool) → (number : ℕ) (found : Bool) → (wide : List ℕ) → Type 0
 FirstWide ts limit held n f w =
     let x = first_wide wall_settings ts (0 ∷ []) limit in
-    (wide_number x ≡ n) × (wide_found x held ≡ f) × (wide_left x (7 ∷ 8 ∷ 9 ∷ []) ≡ w)
+    (number_in x ≡ n) × (wide_found x held ≡ f) × (wide_left x (7 ∷ 8 ∷ 9 ∷ []) ≡ w)
 
 -- §E7.6 a wide seam, none, 31 and 21; where there is none its columns are as they were, and a refusal leaves both
 unfoldable pub FirstWideCases : Type 0

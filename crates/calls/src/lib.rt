@@ -3,147 +3,173 @@
 #![tactic(auto)]
 
 ghost use Rattle.std.specs.Prelude.{◌≡◌, get_or};
-ghost use Rattle.tile.specs.Tile.{number_of as Tile·number-of};
-ghost use Rattle.row.specs.Row.{number_of as Row·number-of};
-ghost use Rattle.seam.specs.Seam.{number_of as Seam·number-of};
-ghost use Rattle.reach.specs.Answers.{gap_number};
+ghost use Rattle.settings.specs.Refusal.{number_in};
 ghost use Rattle.reach.specs.Survey.{surveyed_of};
-ghost use Rattle.wide.specs.Wide.{number_of as Wide·number-of};
-ghost use Rattle.calls.specs.Answers.{forwarded_left, ends_left, side_left, halves_left, gap_left, reach_number, reach_left, survey_number, survey_left, columns_number, columns_left, row_seam_number, row_seam_columns, row_seam_side, row_seam_halves, mark_number, mark_left, link_number, link_left, wide_found, wide_left};
+ghost use Rattle.calls.specs.Answers.{forwarded_words, ends_words, range_words, columns_words, left, left_within, number_within, side_left, halves_left, survey_number, survey_left, row_seam_number, row_seam_columns, row_seam_side, row_seam_halves, wide_found, wide_left};
 
 use layout::UNFIT;
-use places::links::Link;
-use places::marks::Mark;
 use places::seams::{Columns, RowSeam};
-use reach::survey::Surveyed;
-use reach::{Gap, Reached};
-use row::Planned;
+use reach::Range;
+use row::Ends;
 use seam::Seam;
 use settings::Settings;
+use settings::refusal::Refusal;
 use tile::Forwarded;
-use wide::First;
+use wide::Wide;
+
+// What the C interface writes of what an operation gives.
+pub trait Words {
+    type Lent: Drop;
+
+    ghost words: { Self → Self.Lent };
+
+    fn words(self) -> Self::Lent
+        ensures { result ≡ words self };
+}
 
 // P, the correction, whether there is one, and the letter.
-pub fn forwarded_left(forwarded: Forwarded, answer: &mut [i64; 4]) -> u32
-    ensures number { result ≡ Tile·number-of forwarded }
-    ensures answer { answer.new ≡ forwarded_left forwarded answer.old }
-{
-    match forwarded {
-        Forwarded::Corrected {
-            p,
-            correction,
-            letter,
-        } => {
-            let byte = letter.byte() as i64;
-            *answer = [p, correction, 1, byte];
-            0
+impl Words for Forwarded {
+    type Lent = [i64; 4];
+
+    ghost words = { forwarded_words };
+
+    fn words(self) -> [i64; 4] {
+        let byte = i64::from(self.letter.byte());
+        match self.correction {
+            Some(correction) => [self.p, correction, 1, byte],
+            None => [self.p, 0, 0, byte],
         }
-        Forwarded::Uncorrected { p, letter } => {
-            let byte = letter.byte() as i64;
-            *answer = [p, 0, 0, byte];
-            0
-        }
-        Forwarded::Refused(number) => number,
     }
 }
 
 // The earliest and the latest time.
-pub fn ends_left(planned: Planned, ends: &mut [u64; 2]) -> u32
-    ensures number { result ≡ Row·number-of planned }
-    ensures ends { ends.new ≡ ends_left planned ends.old }
-{
-    match planned {
-        Planned::Row { earliest, latest } => {
-            *ends = [earliest, latest];
-            0
-        }
-        Planned::Refused(number) => number,
-    }
-}
+impl Words for Ends {
+    type Lent = [u64; 2];
 
-// Writes the side of a seam, and its halves where it is closed.
-pub fn seam_left(seam: Seam, side: &mut u32, halves: &mut [f64; 2]) -> u32
-    ensures number { result ≡ Seam·number-of seam }
-    ensures side { side.new ≡ side_left seam side.old }
-    ensures halves { halves.new ≡ halves_left seam halves.old }
-{
-    match seam {
-        Seam::Closed(made) => {
-            *side = 0;
-            *halves = [made.midpoint, made.half_gap];
-            0
-        }
-        Seam::Open(open) => {
-            *side = layout::side(open);
-            0
-        }
-        Seam::Refused(number) => number,
-    }
-}
+    ghost words = { ends_words };
 
-// B.
-pub fn gap_left(found: Gap, gap: &mut u64) -> u32
-    ensures number { result ≡ gap_number found }
-    ensures gap { gap.new ≡ gap_left found gap.old }
-{
-    match found {
-        Gap::Widest(widest) => {
-            *gap = widest;
-            0
-        }
-        Gap::Refused(number) => number,
+    fn words(self) -> [u64; 2] {
+        [self.earliest, self.latest]
     }
 }
 
 // The ticks, and the first and the last column.
-pub fn reach_left(reached: Reached, range: &mut [u64; 3]) -> u32
-    ensures number { result ≡ reach_number reached }
-    ensures range { range.new ≡ reach_left reached range.old }
+impl Words for Range {
+    type Lent = [u64; 3];
+
+    ghost words = { range_words };
+
+    fn words(self) -> [u64; 3] {
+        [self.ticks, self.first, self.last]
+    }
+}
+
+// The left and the right column.
+impl Words for Columns {
+    type Lent = [u64; 2];
+
+    ghost words = { columns_words };
+
+    fn words(self) -> [u64; 2] {
+        [self.left, self.right]
+    }
+}
+
+// B, or a link's place.
+impl Words for u64 {
+    type Lent = u64;
+
+    ghost words = { λ n. n };
+
+    fn words(self) -> u64 {
+        self
+    }
+}
+
+// Whether a column is marked.
+impl Words for bool {
+    type Lent = bool;
+
+    ghost words = { λ b. b };
+
+    fn words(self) -> bool {
+        self
+    }
+}
+
+// Writes what an operation gives.
+#[tactic(auto, unfolding(settings::specs::Refusal::number_in, crate::specs::Answers::left))]
+pub fn left<T: Words>(answer: Result<T, Refusal>, lent: &mut T::Lent) -> u32
+    ensures number { result ≡ number_in answer }
+    ensures lent { lent.new ≡ left T.words answer lent.old }
 {
-    match reached {
-        Reached::Within(within) => {
-            *range = [within.ticks, within.first, within.last];
+    match answer {
+        Ok(given) => {
+            *lent = given.words();
             0
         }
-        Reached::Outside => UNFIT,
-        Reached::Refused(number) => number,
+        Err(refusal) => refusal.number(),
+    }
+}
+
+// The same where what it gives may lie outside.
+#[tactic(auto, unfolding(crate::specs::Answers::number_within, crate::specs::Answers::left_within))]
+pub fn left_within<T: Words>(answer: Result<Option<T>, Refusal>, lent: &mut T::Lent) -> u32
+    ensures number { result ≡ number_within answer }
+    ensures lent { lent.new ≡ left_within T.words answer lent.old }
+{
+    match answer {
+        Ok(Some(given)) => {
+            *lent = given.words();
+            0
+        }
+        Ok(None) => UNFIT,
+        Err(refusal) => refusal.number(),
+    }
+}
+
+// Writes the side of a seam, and its halves where it is closed.
+#[tactic(auto, unfolding(settings::specs::Refusal::number_in, crate::specs::Answers::side_left, crate::specs::Answers::halves_left))]
+pub fn seam_left(seam: Result<Seam, Refusal>, side: &mut u32, halves: &mut [f64; 2]) -> u32
+    ensures number { result ≡ number_in seam }
+    ensures side { side.new ≡ side_left seam side.old }
+    ensures halves { halves.new ≡ halves_left seam halves.old }
+{
+    match seam {
+        Ok(Seam::Closed(made)) => {
+            *side = 0;
+            *halves = [made.midpoint, made.half_gap];
+            0
+        }
+        Ok(Seam::Open(open)) => {
+            *side = layout::side(open);
+            0
+        }
+        Err(refusal) => refusal.number(),
     }
 }
 
 // The row that is due next, B of this one and the largest reach.
+#[tactic(auto, unfolding(crate::specs::Answers::number_within, crate::specs::Answers::left_within, crate::specs::Answers::survey_number, crate::specs::Answers::survey_left))]
 pub fn survey_row(settings: Settings, row: &[u64], survey: &mut [u64; 3]) -> u32
     ensures number { result ≡ survey_number (surveyed_of settings (get_or survey.old 0 0) (get_or survey.old 2 0) row.now) }
     ensures survey { survey.new ≡ survey_left (surveyed_of settings (get_or survey.old 0 0) (get_or survey.old 2 0) row.now) survey.old }
 {
     let due = survey[0];
     match reach::survey::survey(settings, due, survey[2], row) {
-        Surveyed::Row { gap, largest } => {
-            *survey = [due + 1, gap, largest];
+        Ok(Some(surveyed)) => {
+            *survey = [due + 1, surveyed.gap, surveyed.largest];
             0
         }
-        Surveyed::Outside => UNFIT,
-        Surveyed::Refused(number) => number,
-    }
-}
-
-// The left and the right column.
-pub fn columns_left(found: Columns, columns: &mut [u64; 2]) -> u32
-    ensures number { result ≡ columns_number found }
-    ensures columns { columns.new ≡ columns_left found columns.old }
-{
-    match found {
-        Columns::Of { left, right } => {
-            *columns = [left, right];
-            0
-        }
-        Columns::Outside => UNFIT,
-        Columns::Refused(number) => number,
+        Ok(None) => UNFIT,
+        Err(refusal) => refusal.number(),
     }
 }
 
 // The columns of a seam, its side, and its halves where it is closed.
+#[tactic(auto, unfolding(crate::specs::Answers::left, crate::specs::Answers::row_seam_number, crate::specs::Answers::row_seam_columns, crate::specs::Answers::row_seam_side, crate::specs::Answers::row_seam_halves))]
 pub fn row_seam_left(
-    found: RowSeam,
+    found: Result<Option<RowSeam>, Refusal>,
     columns: &mut [u64; 2],
     side: &mut u32,
     halves: &mut [f64; 2],
@@ -154,68 +180,38 @@ pub fn row_seam_left(
     ensures halves { halves.new ≡ row_seam_halves found halves.old }
 {
     match found {
-        RowSeam::Of { left, right, seam } => {
-            let number = seam_left(seam, side, halves);
-            if number == 0 {
-                *columns = [left, right];
+        Ok(Some(of)) => {
+            if of.seam.is_ok() {
+                *columns = [of.left, of.right];
             }
-            number
+            seam_left(of.seam, side, halves)
         }
-        RowSeam::Outside => UNFIT,
-        RowSeam::Refused(number) => number,
+        Ok(None) => UNFIT,
+        Err(refusal) => refusal.number(),
     }
 }
 
 // Whether there is a wide seam, and then its columns and its half gap in half ticks.
-pub fn first_wide_left(first: First, found: &mut bool, wide: &mut [u64; 3]) -> u32
-    ensures number { result ≡ Wide·number-of first }
+#[tactic(auto, unfolding(settings::specs::Refusal::number_in, crate::specs::Answers::left_within, crate::specs::Answers::wide_found, crate::specs::Answers::wide_left))]
+pub fn first_wide_left(
+    first: Result<Option<Wide>, Refusal>,
+    found: &mut bool,
+    wide: &mut [u64; 3],
+) -> u32
+    ensures number { result ≡ number_in first }
     ensures found { found.new ≡ wide_found first found.old }
     ensures wide { wide.new ≡ wide_left first wide.old }
 {
     match first {
-        First::Wide {
-            left,
-            right,
-            half_ticks,
-        } => {
+        Ok(Some(seam)) => {
             *found = true;
-            *wide = [left, right, half_ticks];
+            *wide = [seam.left, seam.right, seam.half_ticks];
             0
         }
-        First::None => {
+        Ok(None) => {
             *found = false;
             0
         }
-        First::Refused(number) => number,
-    }
-}
-
-// Whether the column is marked.
-pub fn mark_left(found: Mark, faulty: &mut bool) -> u32
-    ensures number { result ≡ mark_number found }
-    ensures faulty { faulty.new ≡ mark_left found faulty.old }
-{
-    match found {
-        Mark::Is(is) => {
-            *faulty = is;
-            0
-        }
-        Mark::Outside => UNFIT,
-        Mark::Refused(number) => number,
-    }
-}
-
-// The link's place.
-pub fn link_left(found: Link, place: &mut u64) -> u32
-    ensures number { result ≡ link_number found }
-    ensures place { place.new ≡ link_left found place.old }
-{
-    match found {
-        Link::At(at) => {
-            *place = at;
-            0
-        }
-        Link::Outside => UNFIT,
-        Link::Refused(number) => number,
+        Err(refusal) => refusal.number(),
     }
 }

@@ -1,5 +1,7 @@
 // Where a tile's predecessors and links stand. The predecessors of a tile are three or four
 // adjacent columns: three, and one more where the column is the third from an end.
+//
+// A width, a column and marks stay parameters: callers hold them as such, and would build a struct for two or three calls.
 #![tactic(auto)]
 
 ghost use Rattle.std.specs.Prelude.{◌≡◌, true, ◌+◌, ◌≤◌, ◌<◌, ◌/◌, length};
@@ -58,13 +60,7 @@ pub fn quiet(width: usize, marks: &[u8], c: usize) -> bool
     requires { (c < width) × (width ≤ 256) × (length marks.now ≡ mark_bytes width) }
     ensures { result ≡ true → Quiet width marks.now c }
 {
-    if c % 8 != 0 {
-        return false;
-    }
-    if width < c + 11 {
-        return false;
-    }
-    marks[c / 8] == 0
+    c % 8 == 0 && c + 11 <= width && marks[c / 8] == 0
 }
 
 // How many tiles from the column on are away from the ends and have correct predecessors only: eight
@@ -74,19 +70,11 @@ pub fn plain(width: usize, marks: &[u8], c: usize) -> usize
     requires { (c < width) × (width ≤ 256) × (length marks.now ≡ mark_bytes width) }
     ensures { 0 < result → Plain width marks.now c result }
 {
-    if c < 3 {
+    if c < 3 || width <= c + 3 || marked(marks, c - 1) {
         return 0;
     }
-    if width <= c + 3 {
-        return 0;
-    }
-    if marked(marks, c - 1) {
-        return 0;
-    }
-    if quiet(width, marks, c) {
-        if !marked(marks, c + 8) {
-            return 8;
-        }
+    if quiet(width, marks, c) && !marked(marks, c + 8) {
+        return 8;
     }
     if marked(marks, c) {
         return 0;
@@ -101,14 +89,12 @@ fn stretch(width: usize, marks: &[u8], c: usize) -> usize
     ensures { Plain width marks.now c result }
 {
     let most = to_next_byte(width, c);
-    let mut n = 0;
-    while n < most {
+    for n in 0..most {
         if marked(marks, c + n + 1) {
             return n;
         }
-        n += 1;
     }
-    n
+    most
 }
 
 // How many columns there are up to the next byte of marks, or up to the last three.
@@ -116,9 +102,5 @@ fn to_next_byte(width: usize, c: usize) -> usize
     requires { (c + 2 < width) × (width ≤ 256) }
     ensures { c + result + 3 ≤ width }
 {
-    let byte = 8 - c % 8;
-    if c + byte + 3 <= width {
-        return byte;
-    }
-    width - 3 - c
+    (8 - c % 8).min(width - 3 - c)
 }

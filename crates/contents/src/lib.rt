@@ -11,13 +11,14 @@ ghost use Rattle.contents.specs.Contents.{settings_in, times_in, late_start, dri
 
 use columns::four_senders;
 use fields::bytes::{eight, four, two};
-use settings::{Checked, Settings};
+use settings::Settings;
+use settings::refusal::Refusal;
 
 // The latest row 0 time.
 pub const LATEST_START: u64 = 549_755_813_887;
 
-// The settings of a body of 24 bytes, or their number.
-pub fn settings(body: &[u8]) -> Checked
+// The settings of a body of 24 bytes, or why they are turned away.
+pub fn settings(body: &[u8]) -> Result<Settings, Refusal>
     requires { length body.now ≡ 24 }
     ensures { result ≡ checked (settings_in body.now) }
 {
@@ -37,14 +38,7 @@ pub fn late_start(width: usize, body: &[u8]) -> bool
     requires { (width ≤ 256) × (length body.now ≡ 8 * width) }
     ensures { result ≡ any_below width (late_start (times_in width body.now)) }
 {
-    let mut c = 0;
-    while c < width {
-        if LATEST_START < eight(body, 8 * c) {
-            return true;
-        }
-        c += 1;
-    }
-    false
+    (0..width).any(|c| LATEST_START < eight(body, 8 * c))
 }
 
 // Writes the row 0 times.
@@ -52,10 +46,8 @@ pub fn times(body: &[u8], times: &mut [u64])
     requires { (length times.old ≤ 256) × (length body.now ≡ 8 * length times.old) }
     ensures { times.new ≡ times_in (length times.old) body.now }
 {
-    let mut c = 0;
-    while c < times.len() {
-        times[c] = eight(body, 8 * c);
-        c += 1;
+    for (c, time) in times.iter_mut().enumerate() {
+        *time = eight(body, 8 * c);
     }
 }
 
@@ -67,14 +59,12 @@ pub fn tiles(width: usize, body: &[u8], drifts: &mut [u32], phases: &mut [u32], 
     ensures phases { phases.new ≡ phases_in width body.now }
     ensures links { links.new ≡ links_in width body.now }
 {
-    let mut c = 0;
     let mut n = 0;
-    while c < width {
+    for c in 0..width {
         let at = 6 * c + 8 * n;
         drifts[c] = two(body, at) as u32;
         phases[c] = four(body, at + 2) as u32;
         n = tile(width, c, body, at + 6, links, n);
-        c += 1;
     }
 }
 

@@ -16,6 +16,7 @@ use Rattle.board_runs.specs.Promises as promises
 use Rattle.board_runs.proofs.Laws.Run.{run_++}
 use Rattle.board_runs.proofs.Laws.State.{Accepted}
 use Rattle.board_runs.proofs.Laws.Calls.{inside, after_pulse, after_closes}
+use Rattle.std.specs.Prelude.{None}
 use Rattle.board_runs.proofs.Promises.{accepts, not_refused, left_open, starts_as}
 use Rattle.board_runs.proofs.Promises as proofs
 use Rattle.counted.specs.State.{counted, started, pulsed, uncounted, closed, closed_many}
@@ -47,7 +48,7 @@ pub carried : Carried
 unfolding Carried started counted
 carried Q f s n v r cs t e z c =
     let q = board.started s n v in
-    let y : q.number ≡ 0 = rw e at z in
+    let y : q.refusal ≡ None = rw e at z in
     f s n v q cs t.board refl y (rw e at (apart c))
 
 pub pulses_in_time : PulsesInTime
@@ -94,7 +95,7 @@ pub counts_read : CountsRead
 unfolding CountsRead started counted run_of run_from run
 counts_read s n v r cs t e z c =
     let q = board.started s n v in
-    let y : q.number ≡ 0 = rw e at z in
+    let y : q.refusal ≡ None = rw e at z in
     let a = accepts s n v (not_refused s n v q refl y) in
     let begun : Reads a [] r.tile = rw e (record { state = left_open s n v q refl y ∙ starts_as s n v (not_refused s n v q refl y); counts_are = sym (counts_none n) }) in
     (reads_on a [] begun c).counts_are

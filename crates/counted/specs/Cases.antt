@@ -1,8 +1,9 @@
 -- The counts at numbers, with unit 12 and hold 400. Each statement is proved in proofs/Cases.antt, under its name in small letters. Assumes
 -- nothing.
-use Rattle.std.specs.Prelude.{◌≡◌, List, [], ◌∷◌, map, ℕ}
+use Rattle.std.specs.Prelude.{◌≡◌, List, [], ◌∷◌, map, ℕ, Some, None}
 use Rattle.settings.specs.Settings.{settings}
 use Rattle.settings.specs.declared.Settings.{Settings}
+use Rattle.settings.specs.declared.refusal.Refusal.TheVariants.{Sender}
 use Rattle.rule.specs.Stamp.{silence}
 use Rattle.board.specs.Stand.{stand}
 use Rattle.board.specs.declared.stand.Stage.{Stage}
@@ -54,13 +55,13 @@ MostCases =
 unfoldable pub FullCase : Type 0
 FullCase =
     let x = tile 3 (5 ∷ 6 ∷ 7 ∷ 8 ∷ []) (65535 ∷ 65535 ∷ 65535 ∷ 65535 ∷ []) 9 stage.Running in
-    pulsed x 0 ≡ record { number = 0; tile = x }
+    pulsed x 0 ≡ record { refusal = None; tile = x }
 
 -- §E6.1 a third neighbour where there are two is 54, and leaves all
 unfoldable pub WrongCase : Type 0
 WrongCase =
     let x = tile 2 (5 ∷ 6 ∷ 7 ∷ silence ∷ []) (10 ∷ 20 ∷ 30 ∷ 0 ∷ []) 9 stage.Running in
-    pulsed x 3 ≡ record { number = 54; tile = x }
+    pulsed x 3 ≡ record { refusal = Some Sender; tile = x }
 
 -- §E6.1 once it has pulsed, or has ended, nothing is counted
 unfoldable pub OverCases : Type 0
@@ -84,17 +85,17 @@ brief = settings 6 1 1 0 32 0 2
 -- §E6.2 neighbour 1 chatters, and own repeats once; a wrong sender is turned away; after the tile's pulse at 33 both go on
 unfoldable pub chatter : List Call
 chatter =
-    pulses 1 0
-    ∷ pulses 1 0
+    pulses 1 None
+    ∷ pulses 1 None
     ∷ closes_one answer.Waits
-    ∷ pulses 0 0
-    ∷ pulses 1 0
-    ∷ pulses 0 0
-    ∷ pulses 3 54
+    ∷ pulses 0 None
+    ∷ pulses 1 None
+    ∷ pulses 0 None
+    ∷ pulses 3 (Some Sender)
     ∷ closes_many 40 answer.Pulsed
-    ∷ pulses 1 0
-    ∷ pulses 0 0
-    ∷ pulses 3 0
+    ∷ pulses 1 None
+    ∷ pulses 0 None
+    ∷ pulses 3 None
     ∷ []
 
 -- §E6.2 such calls there are, and so are they counted

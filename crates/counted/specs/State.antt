@@ -29,13 +29,13 @@ counted b xs = record { board = b; repeats = xs }
 unfoldable pub started : Settings → (count reading : ℕ) → Started
 started s n v =
     let r = board.started s n v in
-    record { number = r.number; tile = counted r.board (replicate 4 0) }
+    record { refusal = r.refusal; tile = counted r.board (replicate 4 0) }
 
 -- §E6.1 a pulse: it is counted where it is a repeat
 unfoldable pub pulsed : Counted → (sender : ℕ) → Heard
 pulsed x k =
     let r = board.pulsed x.board k in
-    record { number = r.number; tile = counted r.board (cond r.repeat (raised x.repeats k) x.repeats) }
+    record { refusal = r.refusal; tile = counted r.board (cond r.repeat (raised x.repeats k) x.repeats) }
 
 -- §E6.1 closes count nothing
 unfoldable pub uncounted : Counted → board_closed.Closed → Closed

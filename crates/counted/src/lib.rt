@@ -8,7 +8,7 @@ ghost use Rattle.counted.specs.State.{raised, started, pulsed, closed, closed_ma
 use board::Board;
 use board::stand::Answer;
 use settings::Settings;
-use settings::rounding::smaller;
+use settings::refusal::Refusal;
 
 #[derive(Clone, Copy)]
 pub struct Counted {
@@ -20,17 +20,19 @@ pub struct Counted {
 // Where a count stays.
 pub const MOST: u64 = 65_535;
 
+// No Result: `StartApart` speaks of the tile of any start, of one that is turned away too.
 #[derive(Clone, Copy)]
 pub struct Started {
-    // 0, or 1 to 9, 11 or 12; the tile then takes no event.
-    pub number: u32,
+    // 1 to 9, 11 or 12; the tile then takes no event.
+    pub refusal: Option<Refusal>,
     pub tile: Counted,
 }
 
+// No Result: `WrongKept` speaks of the tile after a pulse that is turned away.
 #[derive(Clone, Copy)]
 pub struct Heard {
-    // 0, or 54; the tile is then what it was.
-    pub number: u32,
+    // 54; the tile is then what it was.
+    pub refusal: Option<Refusal>,
     pub tile: Counted,
 }
 
@@ -42,15 +44,15 @@ pub struct Closed {
 
 impl Counted {
     // A tile that opens its first reading and has heard nothing.
+    #[tactic(auto, unfolding(crate::specs::State::started, crate::specs::State::counted))]
     pub fn start(settings: Settings, count: u64, reading: u64) -> Started
         ensures { result ≡ started settings count reading }
     {
         let started = Board::start(settings, count, reading);
-        let board = started.board;
         Started {
-            number: started.number,
+            refusal: started.refusal,
             tile: Counted {
-                board,
+                board: started.board,
                 repeats: [0; 4],
             },
         }
@@ -60,21 +62,18 @@ impl Counted {
     pub fn pulse(self, sender: u64) -> Heard
         ensures { result ≡ pulsed self sender }
     {
-        let repeats = self.repeats;
         let heard = self.board.pulse(sender);
-        let board = heard.board;
-        if heard.repeat {
-            return Heard {
-                number: heard.number,
-                tile: Counted {
-                    board,
-                    repeats: raised(repeats, sender as usize),
-                },
-            };
-        }
+        let repeats = if heard.repeat {
+            raised(self.repeats, sender as usize)
+        } else {
+            self.repeats
+        };
         Heard {
-            number: heard.number,
-            tile: Counted { board, repeats },
+            refusal: heard.refusal,
+            tile: Counted {
+                board: heard.board,
+                repeats,
+            },
         }
     }
 
@@ -86,16 +85,17 @@ impl Counted {
     }
 
     // As many closes, one by one, with no pulse between them.
+    #[tactic(auto, unfolding(crate::specs::State::closed_many, crate::specs::State::uncounted, crate::specs::State::counted))]
     pub fn close_many(self, n: u64) -> Closed
         ensures { result ≡ closed_many self n }
     {
-        let repeats = self.repeats;
         let closed = self.board.close_many(n);
-        let answer = closed.answer;
-        let board = closed.board;
         Closed {
-            answer,
-            tile: Counted { board, repeats },
+            answer: closed.answer,
+            tile: Counted {
+                board: closed.board,
+                ..self
+            },
         }
     }
 }
@@ -106,6 +106,6 @@ fn raised(counts: [u64; 4], place: usize) -> [u64; 4]
     ensures { result ≡ raised counts place }
 {
     let mut raised = counts;
-    raised[place] = smaller(raised[place], MOST - 1) + 1;
+    raised[place] = raised[place].saturating_add(1).min(MOST);
     raised
 }

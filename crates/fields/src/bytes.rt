@@ -7,7 +7,7 @@ pub fn two(bytes: &[u8], at: usize) -> u64
     ensures number { result ≡ big_endian 2 bytes.now at }
     ensures range { result < 65536 }
 {
-    wide(bytes[at]) * 256 + wide(bytes[at + 1])
+    u64::from(u16::from_be_bytes([bytes[at], bytes[at + 1]]))
 }
 
 pub fn four(bytes: &[u8], at: usize) -> u64
@@ -15,22 +15,21 @@ pub fn four(bytes: &[u8], at: usize) -> u64
     ensures number { result ≡ big_endian 4 bytes.now at }
     ensures range { result < 4294967296 }
 {
-    two(bytes, at) * 65536 + two(bytes, at + 2)
+    u64::from(u32::from_be_bytes([bytes[at], bytes[at + 1], bytes[at + 2], bytes[at + 3]]))
 }
 
-// As the definition has it: this form becomes one load.
 pub fn eight(bytes: &[u8], at: usize) -> u64
     requires { at + 8 ≤ length bytes.now }
     ensures { result ≡ big_endian 8 bytes.now at }
 {
-    let two = wide(bytes[at]) * 256 + wide(bytes[at + 1]);
-    let four = (two * 256 + wide(bytes[at + 2])) * 256 + wide(bytes[at + 3]);
-    let six = (four * 256 + wide(bytes[at + 4])) * 256 + wide(bytes[at + 5]);
-    (six * 256 + wide(bytes[at + 6])) * 256 + wide(bytes[at + 7])
-}
-
-fn wide(byte: u8) -> u64
-    ensures { (result ≡ byte) × (result < 256) }
-{
-    byte as u64
+    u64::from_be_bytes([
+        bytes[at],
+        bytes[at + 1],
+        bytes[at + 2],
+        bytes[at + 3],
+        bytes[at + 4],
+        bytes[at + 5],
+        bytes[at + 6],
+        bytes[at + 7],
+    ])
 }

@@ -4,27 +4,30 @@
 pub mod bytes;
 
 ghost use Rattle.std.specs.Prelude.{◌≡◌};
-ghost use Rattle.fields.specs.Field.{field_refusal, body};
+ghost use Rattle.settings.specs.Refusal.{answer};
+ghost use Rattle.fields.specs.Field.{field_cause, body};
 
 use crate::bytes::two;
+use settings::refusal::Refusal;
 
-// 41 to 43, or 0 where the field is the one that is due and is there whole.
-pub fn refusal(tag: u8, size: usize, rest: &[u8]) -> u32
-    ensures { result ≡ field_refusal tag size rest.now }
+// Whether the field is the one that is due and is there whole.
+#[tactic(auto, unfolding(settings::specs::Refusal::answer, settings::specs::Refusal::first, crate::specs::Field::field_cause, crate::specs::Field::field_tests))]
+pub fn check(tag: u8, size: usize, rest: &[u8]) -> Result<(), Refusal>
+    ensures { result ≡ answer (field_cause tag size rest.now) tt }
 {
     if rest.len() < 3 {
-        return 43;
+        return Err(Refusal::Short);
     }
     if rest[0] != tag {
-        return 41;
+        return Err(Refusal::Tag);
     }
     if two(rest, 1) != size as u64 {
-        return 42;
+        return Err(Refusal::Size);
     }
     if rest.len() - 3 < size {
-        return 43;
+        return Err(Refusal::Short);
     }
-    0
+    Ok(())
 }
 
 // The body, as a part of the slice; what is there of it, where the slice ends inside it.

@@ -1,9 +1,9 @@
 -- The cases of specs/Cases.antt and specs/Refusals.antt, computed. Assumes nothing.
 use mathlib.Core.Path.{refl}
 use lib.Ieee.{to_bits, round}
-use Rattle.settings.specs.Refusal.{first, outside, any_below}
+use Rattle.settings.specs.Refusal.{first, or_else, outside, any_below}
 use Rattle.settings.specs.Rounding.{up}
-use Rattle.settings.specs.Settings.{settings, settings_refusal, settings_tests, drift_cost, step, step_of}
+use Rattle.settings.specs.Settings.{settings, settings_cause, settings_refusal, settings_tests, drift_cost, step, step_of}
 use Rattle.rule.specs.Clock.{reads, first_tick}
 use Rattle.rule.specs.Signed.{larger, smaller, natural}
 use Rattle.rule.specs.Stamp.{earlier, later, earliest, latest, stamp_of}
@@ -14,7 +14,7 @@ use Rattle.columns.specs.Columns.{are_neighbours, columns_from, neighbours, is_p
 use Rattle.columns.specs.Marks.{marked, mark_bytes, faulty_among}
 use Rattle.links.specs.Links.{bad_value, bad_link, bad_links}
 use Rattle.admission.specs.Call.{call}
-use Rattle.admission.specs.Refusal.{lengths_are, lengths_right, stray_mark, late_time, crowded, over, row_tests, row_refusal}
+use Rattle.admission.specs.Refusal.{lengths_are, lengths_right, stray_mark, late_time, crowded, over, row_tests, row_cause, row_refusal}
 use Rattle.pulse.specs.Pulse.{arrives, arrival, read_at, stamp, pulse, letter_at}
 use Rattle.row.specs.Row.{row_of, letters_of}
 use Rattle.seam.specs.Seam.{half, halves, late, joined, seam_of}
@@ -22,18 +22,18 @@ use Rattle.lines.specs.Number.{glyph, decimal_in, decimal, hexadecimal}
 use Rattle.lines.specs.Line.{side_word, t_line, halves_words, open_words, seam_head, seam_line, s_line, refused_line}
 use Rattle.lines.specs.Row.{each_below, each_of, right_neighbours, tile_text, seam_text, row_text}
 use Rattle.fields.specs.Bytes.{big_endian}
-use Rattle.fields.specs.Field.{field_tests, field_refusal, body, or_else}
+use Rattle.fields.specs.Field.{field_tests, field_cause, field_refusal, body}
 use Rattle.contents.specs.Contents.{settings_in, times_in, late_start, tile_place, drifts_in, phases_in, tile_links, links_below, links_in, marks_field, row_size, marks_in, tiles_in, call_in}
-use Rattle.steps.specs.Number.{settings_number, start_number, row_number, row_offset}
+use Rattle.steps.specs.Number.{settings_field_cause, start_cause, row_fields_cause, row_offset}
 use Rattle.steps.specs.Shown.{row_shown, no_marks, number_shown}
 use Rattle.show.specs.Text.{text_of, texts_of}
-use Rattle.file.specs.File.{rows_shown, start_shown, shown, wall_text}
+use Rattle.file.specs.File.{or_shown, rows_shown, start_shown, shown, wall_text}
 use Rattle.file.specs.Cases.{codes, printed, put, printed_file, PrintedWhole, ByteMore, faulty_file, first_lines, second_lines, FaultyPrinted, SecondRowRefused, FaultyByteMore}
 use Rattle.file.specs.Refusals.{case, changed, cut, fields_refused, settings_refused, row_refused, order_kept, RefusalsMet, latest_start, LatestStartMet, LargestPhaseMet}
 
 -- the definitions that a refusal is computed by, and those of the rows and lines that are shown
 unfoldable pub refusing : Unit {0}
-unfolding rows_shown start_shown shown settings_number start_number row_number row_offset row_shown no_marks settings_in times_in late_start tile_place drifts_in phases_in tile_links links_below links_in marks_field row_size marks_in tiles_in call_in field_tests field_refusal body or_else big_endian call lengths_are lengths_right stray_mark late_time crowded over row_tests row_refusal bad_value bad_link bad_links marked mark_bytes faulty_among are_neighbours columns_from is_predecessor predecessors links_before place_in link_place link table_from any_of settings settings_refusal settings_tests drift_cost up first outside any_below put printed_file
+unfolding rows_shown start_shown shown or_shown settings_field_cause start_cause row_fields_cause row_offset row_shown no_marks settings_in times_in late_start tile_place drifts_in phases_in tile_links links_below links_in marks_field row_size marks_in tiles_in call_in field_tests field_cause field_refusal body or_else big_endian call lengths_are lengths_right stray_mark late_time crowded over row_tests row_cause row_refusal bad_value bad_link bad_links marked mark_bytes faulty_among are_neighbours columns_from is_predecessor predecessors links_before place_in link_place link table_from any_of settings settings_cause settings_refusal settings_tests drift_cost up first outside any_below put printed_file
 refusing = tt
 
 unfoldable pub showing : Unit {0}

@@ -5,28 +5,31 @@ use mathlib.Core.List.{List, [], ◌∷◌}
 use Prim.Native.Nat.{ℕ, zero, suc, ◌+◌, ◌*◌, ◌≤◌, ◌<◌}
 use lib.ListN.{length, get_or}
 use native.Mathlib.Omega.{arith}
-use borrow.Author.Tests.{eq-eqb, ne_eqb, ltb-false, le-ltb}
-use Rattle.settings.specs.Refusal.{any_below}
+use borrow.Author.Tests.{ltb-false, le-ltb}
+use Rattle.std.specs.Prelude.{Option, Some, None}
+use Rattle.settings.specs.Refusal.{refused, any_below}
+use Rattle.settings.specs.declared.refusal.Refusal.{Refusal}
+use Rattle.settings.specs.declared.refusal.Refusal.TheVariants.{LateStart}
+use Rattle.settings.proofs.Laws.Refusal.{numbered, none_of, skip_given, unhit_given}
 use Rattle.settings.specs.Limits.{SettingsPlain}
 use Rattle.settings.specs.Settings.{settings_refusal}
 use Rattle.settings.specs.declared.Settings.{Settings}
 use Rattle.settings.proofs.Limits.{settings_plain}
 use Rattle.settings.proofs.Laws.AnyBelow.{none_below, none_till}
-use Rattle.settings.proofs.Laws.Cases.{by_equal}
+use Rattle.steps.proofs.Laws.Taken.{by_cause}
 use Rattle.settings.proofs.Laws.Settings.{limits}
 use Rattle.row.specs.Row.{Pulses, pulses}
-use Rattle.runs.specs.Run.{rows}
 use Rattle.runs.specs.Reach.{OneFault}
 use Rattle.runs.proofs.Laws.Run.{run_of}
 use Rattle.runs.proofs.Promises.{one_fault}
 use Rattle.admission.specs.Call.{Call}
-use Rattle.fields.specs.Field.{field_refusal, body}
+use Rattle.fields.specs.Field.{field_cause, field_refusal, body}
 use Rattle.fields.specs.Limits.{FieldPlain}
 use Rattle.fields.proofs.Limits.{field_plain}
 use Rattle.contents.specs.Contents.{settings_size, start_size, times_in, late_start}
 use Rattle.steps.specs.Shown.{turned_away, no_marks, number_shown}
-use Rattle.steps.specs.Number.{settings_number, start_number}
-use Rattle.file.specs.File.{rows_shown, start_shown, shown}
+use Rattle.steps.specs.Number.{settings_field_cause, settings_number, start_cause, start_number}
+use Rattle.file.specs.File.{or_shown, rows_shown, start_shown, shown}
 use Rattle.file.specs.Limits.{settings_of, after_settings, start_of, after_start, calls_in, calls_of, rows_of, Keeps, run_shown}
 use Rattle.file.specs.Program.{CallsRight, LeftFits}
 use Rattle.file.specs.Promises.{StepsRight, AcceptedWhole, OthersRefused, FilePlain, NumbersMet, SeamsAnswered, FileIsRun, FileOneFault}
@@ -34,7 +37,6 @@ use Rattle.file.specs.Stands.{StepsFewer}
 use Rattle.file.specs.Takes.{TakeCallsRight}
 use Rattle.file.proofs.Laws.Calls.{calls_right as calls_law}
 use Rattle.contents.proofs.Laws.Contents.{times_length}
-use Rattle.fields.proofs.Laws.Field.{else_none, else_other}
 use Rattle.file.proofs.Laws.Numbers.{rows_met, settings_number_met, start_number_met}
 use Rattle.file.proofs.Laws.Left.{left_fits as reached_law}
 use Rattle.file.proofs.Laws.Rows.{Grown, rows_accepted, all_accepted, number_after, number_alone, rows_kept}
@@ -64,9 +66,9 @@ pub steps_fewer : StepsFewer
 unfolding StepsFewer
 steps_fewer x row part i k = let a = step_ahead x row part i k in (a.stands, a.less)
 
-no_number : (b : Bool) (n : ℕ) → cond b (suc n) 0 ≡ 0 → b ≡ false
-no_number true n e = let never : ⊥ = omega arith in absurd never
-no_number false n e = refl
+no_number : (b : Bool) → refused (cond b (Some LateStart) None) ≡ 0 → b ≡ false
+no_number true e = absurd (numbered LateStart e)
+no_number false e = refl
 
 -- row 0 as it must be
 start_grown : (s : Settings) (bs : List ℕ) → settings_refusal s ≡ 0 → any_below s.width (late_start (times_in s.width bs)) ≡ false →
@@ -87,31 +89,34 @@ module _ (file : List ℕ) where
   abbrev pub start_at : ℕ
   start_at = start_number (settings_of file) (after_settings file)
 
-  shown_settings : (settings_number file ≡ 0 → ⊥) → shown file ≡ turned_away (settings_number file) 0 ∷ []
-  unfolding shown
-  shown_settings p = rw (ne_eqb (settings_number file) 0 p)
+  abbrev start_why : Option Refusal
+  start_why = start_cause (settings_of file) (after_settings file)
 
-  shown_start : settings_number file ≡ 0 → (start_at ≡ 0 → ⊥) → shown file ≡ turned_away start_at (3 + settings_size) ∷ []
-  unfolding shown start_shown settings_of after_settings
-  shown_start p q = rw (eq-eqb (settings_number file) 0 p, ne_eqb start_at 0 q)
+  shown_settings : {why : Refusal} → settings_field_cause file ≡ Some why → shown file ≡ turned_away why 0 ∷ []
+  unfolding shown or_shown
+  shown_settings p = rw p
+
+  shown_start : settings_number file ≡ 0 → {why : Refusal} → start_why ≡ Some why → shown file ≡ turned_away why (3 + settings_size) ∷ []
+  unfolding shown start_shown or_shown settings_of after_settings settings_number
+  shown_start p q = rw (none_of (settings_field_cause file) p, q)
 
   shown_rows : settings_number file ≡ 0 → start_at ≡ 0 →
       shown file ≡ rows_shown (settings_of file) (settings_of file).rows 0 rows_place (pulses (start_of file) []) (after_start file)
-  unfolding shown start_shown settings_of after_settings start_of after_start
-  shown_rows p q = rw (eq-eqb (settings_number file) 0 p, eq-eqb start_at 0 q)
+  unfolding shown start_shown or_shown settings_of after_settings start_of after_start settings_number start_number
+  shown_rows p q = rw (none_of (settings_field_cause file) p, none_of start_why q)
 
   -- the parts before the rows, where they are accepted
   module _ (p : settings_number file ≡ 0) (q : start_at ≡ 0) where
     settings_kept : (field_refusal 1 settings_size file ≡ 0) × (settings_refusal (settings_of file) ≡ 0)
-    unfolding settings_number settings_of
-    settings_kept = else_none (field_refusal 1 settings_size file) _ p
+    unfolding settings_number settings_field_cause settings_of field_refusal settings_refusal
+    settings_kept = unhit_given (field_cause 1 settings_size file) _ p
 
     start_kept :
         (field_refusal 2 (start_size (settings_of file).width) (after_settings file) ≡ 0) × (any_below (settings_of file).width (late_start (start_of file)) ≡ false)
-    unfolding start_number start_of
+    unfolding start_number start_cause start_of field_refusal
     start_kept =
-        let parts = else_none (field_refusal 2 (start_size (settings_of file).width) (after_settings file)) _ q in
-        (parts.0, no_number (any_below (settings_of file).width (late_start (start_of file))) 44 parts.1)
+        let parts = unhit_given (field_cause 2 (start_size (settings_of file).width) (after_settings file)) _ q in
+        (parts.0, no_number (any_below (settings_of file).width (late_start (start_of file))) parts.1)
 
     early_kept : (c : ℕ) → c < (settings_of file).width → get_or (start_of file) c 0 ≤ 549755813887
     unfolding late_start
@@ -127,19 +132,20 @@ module _ (file : List ℕ) where
 -- a file that keeps every limit
 module _ (file : List ℕ) (k : Keeps file) where
   pub settings_accepted : settings_number file ≡ 0
-  unfolding settings_number settings_of FieldPlain SettingsPlain
+  unfolding settings_number settings_field_cause settings_of FieldPlain SettingsPlain field_refusal settings_refusal
   settings_accepted =
-      else_other (field_refusal 1 settings_size file) _ ((field_plain 1 24 file).0 k.settings_there) ∙ (settings_plain (settings_of file)).0 k.settings_within
+      ap refused (skip_given (field_cause 1 settings_size file) _ ((field_plain 1 24 file).0 k.settings_there)) ∙ (settings_plain (settings_of file)).0 k.settings_within
 
   none_late : any_below (settings_of file).width (late_start (start_of file)) ≡ false
   unfolding late_start
   none_late = none_till _ (settings_of file).width (λ c i. le-ltb 549755813887 (get_or (start_of file) c 0) (omega (arith, k.start_early c i)))
 
   pub start_accepted : start_at file ≡ 0
-  unfolding start_number start_of FieldPlain
+  unfolding start_number start_cause start_of FieldPlain field_refusal
   start_accepted =
-      else_other (field_refusal 2 (start_size (settings_of file).width) (after_settings file)) _
-      ((field_plain 2 (8 * (settings_of file).width) (after_settings file)).0 k.start_there)
+      ap refused
+      (skip_given (field_cause 2 (start_size (settings_of file).width) (after_settings file)) _
+      ((field_plain 2 (8 * (settings_of file).width) (after_settings file)).0 k.start_there))
       ∙ rw none_late
 
   pub first_row : Grown (settings_of file) 0 (start_of file)
@@ -156,10 +162,10 @@ accepted_whole file k =
     ∙ rows_accepted s s.rows 0 (rows_place file) (pulses (start_of file) []) (after_start file) k.rows_keep (first_row file k) (few_rows file k)
 
 pub others_refused : OthersRefused
-unfolding OthersRefused number_shown FieldPlain
+unfolding OthersRefused number_shown FieldPlain settings_number start_number
 others_refused file e =
-    by_equal (settings_number file) 0
-    (λ p. by_equal (start_at file) 0
+    by_cause (settings_field_cause file)
+    (λ p. by_cause (start_why file)
     (λ q. let s = settings_of file in
     record {
       settings_there = (field_plain 1 24 file).1 (settings_kept file p q).0;
@@ -169,8 +175,8 @@ others_refused file e =
       rows_keep = rows_kept s s.rows 0 (rows_place file) (pulses (start_of file) []) (after_start file) (rw (shown_rows file p q) at e) (first_grown file p q)
           (rows_few file p q);
     })
-    (λ q. absurd (q (rw (shown_start file p q) at e))))
-    (λ p. absurd (p (rw (shown_settings file p) at e)))
+    (λ why q. absurd (numbered why (rw (shown_start file p q) at e))))
+    (λ why p. absurd (numbered why (rw (shown_settings file p) at e)))
 
 -- the rows of a run are no refusal
 run_number : (s : Settings) (l : ℕ) (calls : List Call) (r : Pulses) (rs : List (List ℕ)) → number_shown (run_shown s l calls r rs) ≡ 0
@@ -187,24 +193,24 @@ file_plain file = (
 )
 
 pub numbers_met : NumbersMet
-unfolding NumbersMet number_shown
+unfolding NumbersMet number_shown settings_number start_number
 numbers_met file =
-    by_equal (settings_number file) 0
-    (λ p. by_equal (start_at file) 0
+    by_cause (settings_field_cause file)
+    (λ p. by_cause (start_why file)
     (λ q. let s = settings_of file in
     rw (shown_rows file p q) (rows_met s s.rows 0 (rows_place file) (pulses (start_of file) []) (after_start file) (first_grown file p q) (rows_few file p q)))
-    (λ q. rw (shown_start file p q) (start_number_met (settings_of file) (after_settings file))))
-    (λ p. rw (shown_settings file p) (settings_number_met file))
+    (λ why q. rw (shown_start file p q) (rw q at (start_number_met (settings_of file) (after_settings file)))))
+    (λ why p. rw (shown_settings file p) (rw p at (settings_number_met file)))
 
 pub seams_answered : SeamsAnswered
-unfolding SeamsAnswered
+unfolding SeamsAnswered settings_number start_number
 seams_answered file =
-    by_equal (settings_number file) 0
-    (λ p. by_equal (start_at file) 0
+    by_cause (settings_field_cause file)
+    (λ p. by_cause (start_why file)
     (λ q. let s = settings_of file in
     rw (shown_rows file p q) (rows_hold s s.rows 0 (rows_place file) (pulses (start_of file) []) (after_start file) (first_grown file p q) (rows_few file p q)))
-    (λ q. rw (shown_start file p q) (away_holds (start_at file) (3 + settings_size))))
-    (λ p. rw (shown_settings file p) (away_holds (settings_number file) 0))
+    (λ why q. rw (shown_start file p q) (away_holds why (3 + settings_size))))
+    (λ why p. rw (shown_settings file p) (away_holds why 0))
 
 -- a file's calls are a run
 calls_length : (w n : ℕ) (bs : List ℕ) → length (calls_in w n bs) ≡ n

@@ -1,5 +1,5 @@
 -- Calls of the operation `step` itself, known by its contract alone. Assumes nothing.
-use Rattle.std.specs.Prelude.{◌≡◌, true, List, [], ◌++◌, ℕ, length, take, drop}
+use Rattle.std.specs.Prelude.{◌≡◌, true, List, [], ◌++◌, ℕ, length, take, drop, Option}
 use Rattle.std.proofs.Math.Option.{some}
 use Rattle.row.specs.Row.{Pulses}
 use Rattle.file.specs.File.{wall_text}
@@ -9,14 +9,14 @@ use Rattle.wall.specs.Operation.{wall_of, end_of, Stepping}
 use Rattle.stages.specs.declared.Wall.{Wall}
 use Rattle.stages.specs.declared.Wall.TheVariants.{New, Start, Over}
 use Rattle.stages.specs.declared.Place.{Place}
-use Rattle.wall.specs.declared.Answer.{Answer}
+use Rattle.wall.specs.declared.Went.{Went}
 
 -- §17.3 calls over a file until it is over: each is given as many bytes as are due, fewer only where the file ends, the row that the last one
 -- left, its times and its letters, and room in any buffer; `text` is what they wrote there, one after the other. For row 0 any row of W may be lent.
 pub data Calls : (wall : Wall) → (row : Pulses) → (rest text : List ℕ) → Type 0 where
   over : {row : Pulses} {rest : List ℕ} → Calls Over row rest []
   lent : {p : Place} {row : Pulses} {rest text : List ℕ} (held : Pulses) → Calls (Start p) row rest text → Calls (Start p) held rest text
-  taken : {x : Wall} {row : Pulses} {rest text : List ℕ} (held : List ℕ) (at : ℕ) (answer : Answer) (next : Wall) (end : ℕ) (row_after : Pulses) (out : List ℕ) →
+  taken : {x : Wall} {row : Pulses} {rest text : List ℕ} (held : List ℕ) (at : ℕ) (answer : Option Went) (next : Wall) (end : ℕ) (row_after : Pulses) (out : List ℕ) →
       Stepping x (take (due_of x) rest) row held at answer row_after out → wall_of answer ≡ some next → end_of answer ≡ some end →
       Calls next row_after (drop (due_of x) rest) text → Calls x row rest (drop at (take end out) ++ text)
 

@@ -7,7 +7,8 @@ use Rattle.columns.specs.Marks.{marked}
 use Rattle.row.specs.Row.{Pulses, pulses}
 use Rattle.runs.specs.Run.{accepted_calls}
 use Rattle.runs.specs.Reach.{Alike, TwoRuns, Reach}
-use Rattle.seam.specs.Seam.{seam_of, number_of, side_of}
+use Rattle.settings.specs.Refusal.{number_in}
+use Rattle.seam.specs.Seam.{seam_of, side_of}
 use Rattle.seam.specs.declared.Side.TheVariants.{Both}
 use Rattle.steps.specs.Shown.{Shown, lines, turned_away, number_shown}
 use Rattle.file.specs.File.{shown}
@@ -47,8 +48,8 @@ SeamsHold (lines w l ms r) =
     (6 ≤ w)
     × ((a b : ℕ) → a < w → b < w → are_neighbours w a b ≡ true →
     let seam = seam_of (get_or r.times a 0) (marked ms a) (get_or r.times b 0) (marked ms b) in
-    (number_of seam ≡ 0) × (side_of seam ≡ some Both → ⊥))
-SeamsHold (turned_away n at) = Unit {0}
+    (number_in seam ≡ 0) × (side_of seam ≡ some Both → ⊥))
+SeamsHold (turned_away why at) = Unit {0}
 
 -- §10.1 something holds of all that is shown
 pub data Every (P : Shown → Type 0) : List Shown → Type 0 where

@@ -14,29 +14,23 @@ ghost use Rattle.finding.specs.Brought.{row_brought, step_brought, telling_of};
 
 use lines::{line, refused_line};
 use stages::{Place, Wall};
-use steps::Taken;
+use steps::RefusedAt;
 use told::Told;
-use wide::First;
+use wide::Wide;
 use wide_rows::first_wide;
 
-// What an accepted part brought: the first wide seam of the row that is then shown, that there is none in all of the file, or nothing.
+// What an accepted part can bring: the first wide seam of the row that is then shown, or that there is none in all of the file.
 #[derive(Clone, Copy)]
 pub enum Brought {
-    Wide {
-        row: u64,
-        left: u64,
-        right: u64,
-        half_ticks: u64,
-    },
+    Wide { row: u64, seam: Wide },
     No,
-    Nothing,
 }
 
 // The row is the last before the step, and the part is what the step took. The number kept stays.
 pub fn tell(
     limit: u64,
     wall: Wall,
-    taken: Taken,
+    taken: Result<Wall, RefusedAt>,
     part: &[u8],
     row: &[u64],
     kept: u64,
@@ -46,47 +40,41 @@ pub fn tell(
     requires { (wall_fits wall (length row.now) ≡ true) × (taken ≡ taken_of (step_of wall (pulses row.now []) part.now)) × (at + step_room ≤ length out.old) }
     ensures { Said (finding limit wall kept row.now part.now) result out.old at out.new }
 {
-    let after = taken.wall;
-    let number = taken.number;
-    if number != 0 {
-        let end = refused_line(number as u64, taken.offset, out, at);
-        return Told {
-            wall: after,
-            kept,
-            end,
-        };
+    match taken {
+        Ok(after) => told(step_brought(limit, wall, part, row), after, kept, out, at),
+        Err(away) => {
+            let number = away.refusal.number() as u64;
+            Told {
+                wall: Wall::Over,
+                kept,
+                end: refused_line(number, away.offset, out, at),
+            }
+        }
     }
-    told(step_brought(limit, wall, part, row), after, kept, out, at)
 }
 
 // What is told of it: the file is not read on once a wide seam is found.
-fn told(brought: Brought, after: Wall, kept: u64, out: &mut [u8], at: usize) -> Told
+fn told(brought: Option<Brought>, after: Wall, kept: u64, out: &mut [u8], at: usize) -> Told
     requires { at + step_room ≤ length out.old }
     ensures { Said (telling_of after kept brought) result out.old at out.new }
 {
     match brought {
-        Brought::Wide {
-            row,
-            left,
-            right,
-            half_ticks,
-        } => {
-            let end = line(b"wide", &[row, left, right, half_ticks], out, at);
-            Told {
-                wall: Wall::Over,
-                kept,
-                end,
-            }
-        }
-        Brought::No => {
-            let end = line(b"no", &[], out, at);
-            Told {
-                wall: after,
-                kept,
-                end,
-            }
-        }
-        Brought::Nothing => Told {
+        Some(Brought::Wide { row, seam }) => Told {
+            wall: Wall::Over,
+            kept,
+            end: line(
+                b"wide",
+                &[row, seam.left, seam.right, seam.half_ticks],
+                out,
+                at,
+            ),
+        },
+        Some(Brought::No) => Told {
+            wall: after,
+            kept,
+            end: line(b"no", &[], out, at),
+        },
+        None => Told {
             wall: after,
             kept,
             end: at,
@@ -95,13 +83,11 @@ fn told(brought: Brought, after: Wall, kept: u64, out: &mut [u8], at: usize) -> 
 }
 
 // What a step brought whose part is accepted.
-fn step_brought(limit: u64, wall: Wall, part: &[u8], row: &[u64]) -> Brought
+fn step_brought(limit: u64, wall: Wall, part: &[u8], row: &[u64]) -> Option<Brought>
     requires { wall_fits wall (length row.now) ≡ true }
     ensures { result ≡ step_brought limit wall row.now part.now }
 {
     match wall {
-        Wall::New => Brought::Nothing,
-        Wall::Start(_) => Brought::Nothing,
         Wall::Row(place) => {
             let marks = fields::body((row.len() + 7) / 8, part);
             row_brought(limit, place, false, marks, row)
@@ -112,36 +98,25 @@ fn step_brought(limit: u64, wall: Wall, part: &[u8], row: &[u64]) -> Brought
             let bytes = (row.len() + 7) / 8;
             row_brought(limit, place, true, &marks[..bytes], row)
         }
-        Wall::Over => Brought::Nothing,
+        Wall::New | Wall::Start(_) | Wall::Over => None,
     }
 }
 
 // What the row at a place brought; row 0 is not shown.
-fn row_brought(limit: u64, place: Place, last: bool, marks: &[u8], row: &[u64]) -> Brought
+fn row_brought(limit: u64, place: Place, last: bool, marks: &[u8], row: &[u64]) -> Option<Brought>
     ensures { result ≡ row_brought limit place last marks.now row.now }
 {
-    if place.row != 0 {
-        let settings = place.settings;
-        match first_wide(settings, row, marks, limit) {
-            First::Wide {
-                left,
-                right,
-                half_ticks,
-            } => {
-                return Brought::Wide {
-                    row: place.row,
-                    left,
-                    right,
-                    half_ticks,
-                };
-            }
-            First::None => {}
-            // No row of a wall file has such a seam.
-            First::Refused(_) => {}
-        }
+    let without = last.then_some(Brought::No);
+    if place.row == 0 {
+        return without;
     }
-    if last {
-        return Brought::No;
+    match first_wide(place.settings, row, marks, limit) {
+        Ok(Some(seam)) => Some(Brought::Wide {
+            row: place.row,
+            seam,
+        }),
+        Ok(None) => without,
+        // No row of a wall file has a seam that is turned away.
+        Err(_) => without,
     }
-    Brought::Nothing
 }

@@ -9,12 +9,13 @@ use Rattle.row.specs.Row.{Pulses, pulses, cut}
 use Rattle.stages.specs.declared.Wall.{Wall}
 use Rattle.steps.specs.Step.{step_of}
 use Rattle.steps.specs.Take.{taken_of, step_from, StepTaken}
-use Rattle.steps.specs.declared.Taken.{Taken}
+use Rattle.steps.specs.declared.RefusedAt.{RefusedAt}
+use Rattle.std.specs.Prelude.{Result}
 use Rattle.in_place.specs.Replaced.{Replaces}
 use Rattle.show.proofs.Laws.{row_in_place}
 
 -- by copies of the last row
-pub replaces : {x : Wall} {part : List ℕ} {lent after : Pulses} {t : Taken} {times letters : List ℕ} → times ≡ lent.times → letters ≡ lent.letters → StepTaken x part times lent t after →
+pub replaces : {x : Wall} {part : List ℕ} {lent after : Pulses} {t : Result Wall RefusedAt} {times letters : List ℕ} → times ≡ lent.times → letters ≡ lent.letters → StepTaken x part times lent t after →
     Replaces x part lent t (pulses times letters) after
 unfolding step_from
 replaces {x} {part} {lent} e f k = record { taken = k.is ∙ rw e; kept = rw (e, f); row = rw e at k.written ∙ row_in_place x lent part }
@@ -27,7 +28,7 @@ pub cut_placed : (n : ℕ) (long row : Pulses) → length row.times ≡ n → le
 cut_placed n long row t l = rw (take_at row.times (drop n long.times) n t, take_at row.letters (drop n long.letters) n l)
 
 -- the last row, kept in the first places of longer room
-module _ {x : Wall} {part : List ℕ} {lent last after : Pulses} {t : Taken} (d : Replaces x part lent t last after) {n : ℕ} (times : length lent.times ≡ n) (letters : length lent.letters ≡ n)
+module _ {x : Wall} {part : List ℕ} {lent last after : Pulses} {t : Result Wall RefusedAt} (d : Replaces x part lent t last after) {n : ℕ} (times : length lent.times ≡ n) (letters : length lent.letters ≡ n)
     (room : Pulses) where
   times_long : length last.times ≡ n
   times_long = ap (λ (q : Pulses). length q.times) d.kept ∙ times

@@ -2,7 +2,7 @@
 use mathlib.Core.Path.{refl}
 use Rattle.settings.specs.Refusal.{first, outside}
 use Rattle.settings.specs.Rounding.{up}
-use Rattle.settings.specs.Settings.{settings, drift_cost, settings_tests, settings_refusal}
+use Rattle.settings.specs.Settings.{settings, drift_cost, settings_tests, settings_cause, settings_refusal}
 use Rattle.rule.specs.Signed.{natural}
 use Rattle.tile.specs.Tile.{silent_at, reading_at, stamp_from, stamp_at, neighbour_places, own_stamp, neighbour_stamps}
 use Rattle.columns.specs.Marks.{mark_bytes}
@@ -12,7 +12,7 @@ use Rattle.layout.specs.Words.{settings_from, at_most, stamp_in, stamps_in, side
 use Rattle.layout.specs.Cases.{Refuses, SettingsCases, StampsCases, SideCases, wall_settings, wall_place, staged_words, WallReadCases, WallWrittenCases, RefusedCases, widest_words, DueCases, TakesCases}
 
 pub settings_cases : SettingsCases
-unfolding SettingsCases Refuses settings_from settings settings_refusal settings_tests first outside drift_cost up
+unfolding SettingsCases Refuses settings_from settings settings_refusal settings_cause settings_tests first outside drift_cost up
 settings_cases = (refl, refl, refl, refl, refl, refl, refl, refl, refl, refl)
 
 pub stamps_cases : StampsCases
@@ -36,9 +36,9 @@ unfolding RefusedCases wall_settings wall_place staged_words refused_words refus
 refused_cases = (refl, refl, refl, refl, refl, refl)
 
 pub due_cases : DueCases
-unfolding DueCases widest_words wall_in staged place_in settings_from settings place due_of width_of due_size passes settings_refusal settings_tests first outside drift_cost up row_size marks_field mark_bytes
+unfolding DueCases widest_words wall_in staged place_in settings_from settings place due_of width_of due_size passes settings_refusal settings_cause settings_tests first outside drift_cost up row_size marks_field mark_bytes
 due_cases = (refl, refl, refl, refl, refl, refl, refl, refl, refl)
 
 pub takes_cases : TakesCases
-unfolding TakesCases takes widest_words wall_in staged place_in settings_from settings place due_of due_size passes settings_refusal settings_tests first outside drift_cost up row_size marks_field mark_bytes
+unfolding TakesCases takes widest_words wall_in staged place_in settings_from settings place due_of due_size passes settings_refusal settings_cause settings_tests first outside drift_cost up row_size marks_field mark_bytes
 takes_cases = (refl, refl, refl, refl, refl, refl, refl, refl, refl)

@@ -1,8 +1,8 @@
 // The structs of the C header as words, in the order of its fields.
 #![tactic(auto)]
 
-ghost use Rattle.std.specs.Prelude.{◌≡◌, ◌≤◌};
-ghost use Rattle.layout.specs.Words.{settings_from, at_most, stamp_in, stamps_in, side_word, place_in, staged, wall_in, place_words, wall_words, refused_words, refused_number, takes};
+ghost use Rattle.std.specs.Prelude.{◌≡◌, ◌+◌, ◌≤◌, length};
+ghost use Rattle.layout.specs.Words.{settings_from, stamp_in, stamps_in, side_word, place_in, staged, wall_in, place_words, wall_words, refused_words, refused_number, takes};
 
 use seam::Side;
 use settings::Settings;
@@ -15,19 +15,30 @@ pub const UNFIT: u32 = 4_294_967_295;
 pub fn settings_in(words: &[u64; 7]) -> Settings
     ensures { result ≡ settings_from 0 words.now }
 {
+    settings_from(words, 0)
+}
+
+// The settings among words, from a place on.
+pub fn settings_from(words: &[u64], at: usize) -> Settings
+    requires { at + 7 ≤ length words.now }
+    ensures { result ≡ settings_from at words.now }
+{
     Settings {
-        width: words[0],
-        rows: words[1],
-        delay: words[2],
-        uncertainty: words[3],
-        hold: words[4],
-        drift: words[5],
-        unit: words[6],
+        width: words[at],
+        rows: words[at + 1],
+        delay: words[at + 2],
+        uncertainty: words[at + 3],
+        hold: words[at + 4],
+        drift: words[at + 5],
+        unit: words[at + 6],
     }
 }
 
 // A stamp of a silent sender.
-const SILENT: u64 = 18_446_744_073_709_551_615;
+const SILENT: u64 = u64::MAX;
+
+// The first reading that is too late for a stamp.
+const FIRST_LATE: u64 = 2_199_023_255_552;
 
 // Own's stamp, the neighbours', and their count.
 pub fn stamps_in(words: &[u64; 5]) -> Stamps
@@ -46,7 +57,7 @@ pub fn stamps_in(words: &[u64; 5]) -> Stamps
             words[2] == SILENT,
             words[3] == SILENT,
         ],
-        count: at_most(4, words[4]) as u32,
+        count: words[4].min(4) as u32,
     }
 }
 
@@ -54,17 +65,7 @@ pub fn stamps_in(words: &[u64; 5]) -> Stamps
 fn stamp_in(word: u64) -> i64
     ensures { result ≡ stamp_in word }
 {
-    at_most(2_199_023_255_552, word) as i64
-}
-
-fn at_most(most: u64, word: u64) -> u64
-    ensures is { result ≡ at_most most word }
-    ensures few { result ≤ most }
-{
-    if word < most {
-        return word;
-    }
-    most
+    word.min(FIRST_LATE) as i64
 }
 
 pub fn side(side: Side) -> u32
@@ -87,15 +88,7 @@ pub fn place_in(words: &[u64; 10]) -> Place
     ensures { result ≡ place_in words.now }
 {
     Place {
-        settings: Settings {
-            width: words[1],
-            rows: words[2],
-            delay: words[3],
-            uncertainty: words[4],
-            hold: words[5],
-            drift: words[6],
-            unit: words[7],
-        },
+        settings: settings_from(words, 1),
         row: words[8],
         offset: words[9],
     }
@@ -131,7 +124,7 @@ pub fn refused_number(words: &[u64; 10]) -> u32
     if words[0] != 5 {
         return 0;
     }
-    if UNFIT as u64 <= words[8] {
+    if u64::from(UNFIT) <= words[8] {
         return 0;
     }
     words[8] as u32
@@ -159,7 +152,7 @@ pub fn refused_words(number: u32, offset: u64, place: Place) -> [u64; 10]
         5,
         Place {
             settings,
-            row: number as u64,
+            row: u64::from(number),
             offset,
         },
     )

@@ -1,12 +1,13 @@
 -- The printed lines, in ASCII. Assumes nothing.
-use Rattle.std.specs.Prelude.{Bool, cond, List, [], ◌∷◌, ◌++◌, ℕ}
+use Rattle.std.specs.Prelude.{Bool, cond, List, [], ◌∷◌, ◌++◌, ℕ, Result, Ok, Err}
 use Rattle.std.specs.Float.{binary64}
 use Rattle.std.specs.Float.Ieee.{to_bits}
+use Rattle.settings.specs.declared.refusal.Refusal.{Refusal}
 use Rattle.seam.specs.declared.Halves.{Halves}
 use Rattle.seam.specs.declared.Side.{Side}
 use Rattle.seam.specs.declared.Side.TheVariants.{Left, Right, Both}
 use Rattle.seam.specs.declared.Seam.{Seam}
-use Rattle.seam.specs.declared.Seam.TheVariants.{Closed, Open, Refused}
+use Rattle.seam.specs.declared.Seam.TheVariants.{Closed, Open}
 use Rattle.lines.specs.Number.{decimal, hexadecimal}
 
 -- §10.2 what stands between the words of a line
@@ -61,10 +62,10 @@ unfoldable pub seam_line : (row left right : ℕ) → (words : List ℕ) → Lis
 seam_line l a b words = seam_head l a b ++ (space ∷ words) ++ (line_end ∷ [])
 
 -- §10.3 the line of a seam; one that is turned away has none, and in a wall file none is
-unfoldable pub s_line : (row left right : ℕ) → Seam → List ℕ
-s_line l a b (Closed h) = seam_line l a b (halves_words h)
-s_line l a b (Open side) = seam_line l a b (open_words side)
-s_line l a b (Refused n) = []
+unfoldable pub s_line : (row left right : ℕ) → Result Seam Refusal → List ℕ
+s_line l a b (Ok (Closed h)) = seam_line l a b (halves_words h)
+s_line l a b (Ok (Open side)) = seam_line l a b (open_words side)
+s_line l a b (Err why) = []
 
 -- §10.4 the line of a refusal
 unfoldable pub refused_line : (number offset : ℕ) → List ℕ

@@ -3,7 +3,7 @@
 #![tactic(auto)]
 
 ghost use Rattle.std.specs.Prelude.{◌≡◌, [], ◌∷◌, ◌+◌, ◌*◌, ◌≤◌, ◌<◌, length};
-ghost use Rattle.lines.specs.Number.{glyph as Number·glyph, decimal as Number·decimal};
+ghost use Rattle.lines.specs.Number.{glyph as glyph_of, decimal as decimal_of};
 ghost use Rattle.lines.specs.Line.{space, refused_line, line_text};
 ghost use Rattle.columns.specs.Wrote.{Wrote};
 
@@ -22,18 +22,15 @@ pub fn word(text: &[u8], out: &mut [u8], at: usize) -> usize
     requires { at + length text.now ≤ length out.old }
     ensures { Wrote out.old at text.now out.new result }
 {
-    let mut i = 0;
-    while i < text.len() {
-        out[at + i] = text[i];
-        i += 1;
-    }
-    at + i
+    let end = at + text.len();
+    out[at..end].copy_from_slice(text);
+    end
 }
 
 // The decimal digits of n, as many as it takes.
 pub fn decimal(n: u64, out: &mut [u8], at: usize) -> usize
-    requires { at + length (Number·decimal n) ≤ length out.old }
-    ensures { Wrote out.old at (Number·decimal n) out.new result }
+    requires { at + length (decimal_of n) ≤ length out.old }
+    ensures { Wrote out.old at (decimal_of n) out.new result }
 {
     if n < 10 {
         return byte(glyph(n), out, at);
@@ -44,8 +41,8 @@ pub fn decimal(n: u64, out: &mut [u8], at: usize) -> usize
 
 // A space and a number.
 pub fn spaced(n: u64, out: &mut [u8], at: usize) -> usize
-    requires { at + 1 + length (Number·decimal n) ≤ length out.old }
-    ensures { Wrote out.old at (space ∷ Number·decimal n) out.new result }
+    requires { at + 1 + length (decimal_of n) ≤ length out.old }
+    ensures { Wrote out.old at (space ∷ decimal_of n) out.new result }
 {
     let end = byte(b' ', out, at);
     decimal(n, out, end)
@@ -53,9 +50,9 @@ pub fn spaced(n: u64, out: &mut [u8], at: usize) -> usize
 
 fn glyph(digit: u64) -> u8
     requires { digit < 10 }
-    ensures { result ≡ Number·glyph digit }
+    ensures { result ≡ glyph_of digit }
 {
-    48 + digit as u8
+    b'0' + digit as u8
 }
 
 // Writes the line of a refusal.
@@ -77,10 +74,8 @@ pub fn line(name: &[u8], values: &[u64], out: &mut [u8], at: usize) -> usize
     ensures few { result ≤ at + (length name.now + 21 * length values.now + 1) }
 {
     let mut end = word(name, out, at);
-    let mut i = 0;
-    while i < values.len() {
-        end = spaced(values[i], out, end);
-        i += 1;
+    for value in values {
+        end = spaced(*value, out, end);
     }
     byte(b'\n', out, end)
 }

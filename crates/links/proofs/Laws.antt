@@ -3,3 +3,4 @@ pub mod Links
 pub mod Ordinary
 pub mod Bits
 pub mod Delays
+pub mod Row

@@ -8,7 +8,7 @@ ghost use Rattle.asked.specs.Asked.{HasTables, step_for};
 
 use asked::Asked;
 use std::io::{Read, Write};
-use stream::{Outcome, State, Turn, finish, ready};
+use stream::{Outcome, State, finish, ready};
 use turn::advance;
 
 // So many bytes are read or written a call, at most.
@@ -34,7 +34,7 @@ pub fn run<R: Read, W: Write>(from: &mut R, to: &mut W, asked: Asked, given: &[u
             return finish(to, state, &output);
         }
         match ready(from, to, state, due, &mut input, &output) {
-            Turn::On(made) => {
+            Ok(made) => {
                 let going = advance(
                     asked,
                     given,
@@ -49,8 +49,11 @@ pub fn run<R: Read, W: Write>(from: &mut R, to: &mut W, asked: Asked, given: &[u
                 state = going.state;
                 kept = going.kept;
             }
-            Turn::Stop(ended) => {
-                return Outcome { ended, state };
+            Err(failed) => {
+                return Outcome {
+                    ended: Err(failed),
+                    state,
+                };
             }
         }
     }

@@ -6,64 +6,61 @@ ghost use Rattle.places.specs.Seams.{seam_left, seam_right, columns_of, other_le
 use columns::marked;
 use seam::Seam;
 use settings::Settings;
+use settings::refusal::Refusal;
 
+// The columns of a seam.
 #[derive(Clone, Copy)]
-pub enum Columns {
-    Of { left: u64, right: u64 },
-    // No seam of the row.
-    Outside,
-    // 1 to 9.
-    Refused(u32),
+pub struct Columns {
+    pub left: u64,
+    pub right: u64,
 }
 
+// A seam of a row with its columns, or the refusal of its times.
 #[derive(Clone, Copy)]
-pub enum RowSeam {
-    Of { left: u64, right: u64, seam: Seam },
-    // No seam of the row.
-    Outside,
-    // 1 to 9, or 21.
-    Refused(u32),
+pub struct RowSeam {
+    pub left: u64,
+    pub right: u64,
+    pub seam: Result<Seam, Refusal>,
 }
 
-// The columns of a row's seam.
-pub fn columns_of(settings: Settings, i: u64) -> Columns
+// The columns of a row's seam; none where the row has no such seam.
+pub fn columns_of(settings: Settings, i: u64) -> Result<Option<Columns>, Refusal>
     ensures { result ≡ columns_of settings i }
 {
-    let number = settings.refusal();
-    if number != 0 {
-        return Columns::Refused(number);
-    }
+    settings.check()?;
     let width = settings.width;
     if width < i {
-        return Columns::Outside;
+        return Ok(None);
     }
-    Columns::Of {
+    Ok(Some(Columns {
         left: left(width, i),
         right: right(width, i),
-    }
+    }))
 }
 
-// The seam with its columns, of a row of W times and its marks.
-pub fn row_seam(settings: Settings, times: &[u64], marks: &[u8], i: u64) -> RowSeam
+// The seam with its columns, of a row of W times and its marks; none where the row has no such seam.
+pub fn row_seam(
+    settings: Settings,
+    times: &[u64],
+    marks: &[u8],
+    i: u64,
+) -> Result<Option<RowSeam>, Refusal>
     ensures { result ≡ seam_at settings times.now marks.now i }
 {
-    let number = settings.refusal();
-    if number != 0 {
-        return RowSeam::Refused(number);
-    }
+    settings.check()?;
     let width = settings.width;
     if other_lengths(width as usize, times.len(), marks.len()) {
-        return RowSeam::Refused(21);
+        return Err(Refusal::Lengths);
     }
     if width < i {
-        return RowSeam::Outside;
+        return Ok(None);
     }
-    between(
+    Ok(Some(between(
         times,
         marks,
         left(width, i) as usize,
         right(width, i) as usize,
-    )
+    )))
 }
 
 // The seam of two columns.
@@ -73,7 +70,7 @@ fn between(times: &[u64], marks: &[u8], a: usize, b: usize) -> RowSeam
 {
     let left_faulty = marked(marks, a);
     let right_faulty = marked(marks, b);
-    RowSeam::Of {
+    RowSeam {
         left: a as u64,
         right: b as u64,
         seam: seam::join(times[a], left_faulty, times[b], right_faulty),

@@ -4,19 +4,19 @@
 #![tactic(auto)]
 
 ghost use Rattle.std.specs.Prelude.{◌≡◌, length, replicate, get_or};
+ghost use Rattle.settings.specs.Refusal.{number_in};
 ghost use Rattle.settings.specs.Settings.{settings_refusal};
-ghost use Rattle.tile.specs.Tile.{forwarded, number_of as Tile·number-of};
+ghost use Rattle.tile.specs.Tile.{forwarded};
 ghost use Rattle.admission.specs.Call.{call};
-ghost use Rattle.row.specs.Row.{pulses, planned, written, lettered, number_of as Row·number-of};
-ghost use Rattle.seam.specs.Seam.{seam_of, number_of as Seam·number-of};
+ghost use Rattle.row.specs.Row.{pulses, planned, written, lettered};
+ghost use Rattle.seam.specs.Seam.{seam_of};
 ghost use Rattle.reach.specs.Search.{gap_of, reach_of, reach_in_row};
 ghost use Rattle.reach.specs.Survey.{surveyed_of};
-ghost use Rattle.reach.specs.Answers.{gap_number};
 ghost use Rattle.stages.specs.Fit.{due_of, width_of};
 ghost use Rattle.places.specs.Seams.{columns_of, seam_at};
 ghost use Rattle.places.specs.Marks.{mark_of};
 ghost use Rattle.places.specs.Links.{link_of};
-ghost use Rattle.wide.specs.Wide.{first_wide, number_of as Wide·number-of};
+ghost use Rattle.wide.specs.Wide.{first_wide};
 ghost use Rattle.layout.specs.Words.{settings_from, stamps_in, wall_in};
 ghost use Rattle.calls.specs.Answers.{forwarded_left, ends_left, side_left, halves_left, gap_left, reach_number, reach_left, survey_number, survey_left, columns_number, columns_left, row_seam_number, row_seam_columns, row_seam_side, row_seam_halves, mark_number, mark_left, link_number, link_left, wide_found, wide_left};
 ghost use Rattle.wall_calls.specs.Answers.{step_answer, next_left, step_number, wall_left, offset_left};
@@ -30,8 +30,10 @@ use layout::{settings_in, stamps_in, wall_in};
 pub extern "C" fn polzaintu_settings_refusal(settings: &[u64; 7]) -> u32
     ensures { result ≡ settings_refusal (settings_from 0 settings.now) }
 {
-    let settings = settings_in(settings);
-    settings.refusal()
+    match settings_in(settings).check() {
+        Ok(()) => 0,
+        Err(refusal) => refusal.number(),
+    }
 }
 
 #[unsafe(no_mangle)]
@@ -40,10 +42,10 @@ pub extern "C" fn polzaintu_tile(
     stamps: &[u64; 5],
     answer: &mut [i64; 4],
 ) -> u32
-    ensures number { result ≡ Tile·number-of (forwarded (settings_from 0 settings.now) (stamps_in stamps.now)) }
+    ensures number { result ≡ number_in (forwarded (settings_from 0 settings.now) (stamps_in stamps.now)) }
     ensures answer { answer.new ≡ forwarded_left (forwarded (settings_from 0 settings.now) (stamps_in stamps.now)) answer.old }
 {
-    calls::forwarded_left(
+    calls::left(
         tile::forward(settings_in(settings), stamps_in(stamps)),
         answer,
     )
@@ -61,12 +63,12 @@ pub extern "C" fn polzaintu_row(
     letters: &mut [u8],
     ends: &mut [u64; 2],
 ) -> u32
-    ensures number { result ≡ Row·number-of (planned (settings_from 0 settings.now) before.now (call marks.now drifts.now phases.now links.now (length times.old) (length letters.old))) }
+    ensures number { result ≡ number_in (planned (settings_from 0 settings.now) before.now (call marks.now drifts.now phases.now links.now (length times.old) (length letters.old))) }
     ensures times { times.new ≡ written (settings_from 0 settings.now) before.now (call marks.now drifts.now phases.now links.now (length times.old) (length letters.old)) times.old }
     ensures letters { letters.new ≡ lettered (settings_from 0 settings.now) before.now (call marks.now drifts.now phases.now links.now (length times.old) (length letters.old)) letters.old }
     ensures ends { ends.new ≡ ends_left (planned (settings_from 0 settings.now) before.now (call marks.now drifts.now phases.now links.now (length times.old) (length letters.old))) ends.old }
 {
-    calls::ends_left(
+    calls::left(
         row::plan(
             settings_in(settings),
             before,
@@ -90,7 +92,7 @@ pub extern "C" fn polzaintu_seam(
     side: &mut u32,
     halves: &mut [f64; 2],
 ) -> u32
-    ensures number { result ≡ Seam·number-of (seam_of left left_faulty right right_faulty) }
+    ensures number { result ≡ number_in (seam_of left left_faulty right right_faulty) }
     ensures side { side.new ≡ side_left (seam_of left left_faulty right right_faulty) side.old }
     ensures halves { halves.new ≡ halves_left (seam_of left left_faulty right right_faulty) halves.old }
 {
@@ -103,10 +105,10 @@ pub extern "C" fn polzaintu_seam(
 
 #[unsafe(no_mangle)]
 pub extern "C" fn polzaintu_widest_gap(settings: &[u64; 7], row: &[u64], gap: &mut u64) -> u32
-    ensures number { result ≡ gap_number (gap_of (settings_from 0 settings.now) row.now) }
+    ensures number { result ≡ number_in (gap_of (settings_from 0 settings.now) row.now) }
     ensures gap { gap.new ≡ gap_left (gap_of (settings_from 0 settings.now) row.now) gap.old }
 {
-    calls::gap_left(reach::widest_gap(settings_in(settings), row), gap)
+    calls::left(reach::widest_gap(settings_in(settings), row), gap)
 }
 
 // `broken` is the gap, the rows and the column.
@@ -120,7 +122,7 @@ pub extern "C" fn polzaintu_reach(
     ensures range { range.new ≡ reach_left (reach_of (settings_from 0 settings.now) (get_or broken.now 0 0) (get_or broken.now 1 0) (get_or broken.now 2 0)) range.old }
 {
     let reached = reach::reach(settings_in(settings), broken[0], broken[1], broken[2]);
-    calls::reach_left(reached, range)
+    calls::left_within(reached, range)
 }
 
 // `broken` is the gap, the row, the later row and the column.
@@ -140,7 +142,7 @@ pub extern "C" fn polzaintu_reach_in_row(
         broken[2],
         broken[3],
     );
-    calls::reach_left(reached, range)
+    calls::left_within(reached, range)
 }
 
 // `survey` is the row that is due, B of the last one surveyed and the largest reach.
@@ -165,7 +167,7 @@ pub extern "C" fn polzaintu_seam_columns(
     ensures number { result ≡ columns_number (columns_of (settings_from 0 settings.now) seam) }
     ensures columns { columns.new ≡ columns_left (columns_of (settings_from 0 settings.now) seam) columns.old }
 {
-    calls::columns_left(
+    calls::left_within(
         places::seams::columns_of(settings_in(settings), seam),
         columns,
     )
@@ -203,7 +205,7 @@ pub extern "C" fn polzaintu_first_wide(
     found: &mut bool,
     wide: &mut [u64; 3],
 ) -> u32
-    ensures number { result ≡ Wide·number-of (first_wide (settings_from 0 settings.now) times.now marks.now limit) }
+    ensures number { result ≡ number_in (first_wide (settings_from 0 settings.now) times.now marks.now limit) }
     ensures found { found.new ≡ wide_found (first_wide (settings_from 0 settings.now) times.now marks.now limit) found.old }
     ensures wide { wide.new ≡ wide_left (first_wide (settings_from 0 settings.now) times.now marks.now limit) wide.old }
 {
@@ -224,7 +226,7 @@ pub extern "C" fn polzaintu_mark(
     ensures number { result ≡ mark_number (mark_of (settings_from 0 settings.now) marks.now column) }
     ensures faulty { faulty.new ≡ mark_left (mark_of (settings_from 0 settings.now) marks.now column) faulty.old }
 {
-    calls::mark_left(
+    calls::left_within(
         places::marks::mark_of(settings_in(settings), marks, column),
         faulty,
     )
@@ -240,7 +242,7 @@ pub extern "C" fn polzaintu_link_place(
     ensures number { result ≡ link_number (link_of (settings_from 0 settings.now) tile sender) }
     ensures place { place.new ≡ link_left (link_of (settings_from 0 settings.now) tile sender) place.old }
 {
-    calls::link_left(
+    calls::left_within(
         places::links::place_of(settings_in(settings), tile, sender),
         place,
     )

@@ -1,6 +1,5 @@
 -- The tiles of an accepted row, as the tile operation takes them: none is turned away. Assumes nothing.
-use Rattle.std.specs.Prelude.{◌≡◌, Bool, true, false, List, [], ◌∷◌, map, ℕ, ◌+◌, ◌<◌, ℤ, pos, length, get_or}
-use Rattle.std.proofs.Math.Option.{some}
+use Rattle.std.specs.Prelude.{◌≡◌, Bool, true, false, List, [], ◌∷◌, map, ℕ, ◌+◌, ◌<◌, ℤ, pos, length, get_or, Some}
 use Rattle.rule.specs.Clock.{first_tick}
 use Rattle.rule.specs.Stamp.{Stamp, heard, silent}
 use Rattle.tile.specs.Tile.{own_stamp, neighbour_stamps, tile_refusal, forwarded, letter_of}
@@ -44,4 +43,4 @@ TilesAccepted =
     (s : Settings) (ts : List ℕ) (x : Call) (c : ℕ) → row_refusal s ts x ≡ 0 → c < s.width →
     let st = tile_stamps s ts x c in
     (tile_refusal s st ≡ 0) × (pulse s ts x c ≡ first_tick (get_or x.drifts c 0) (get_or x.phases c 0) (tile_P s (own_stamp st) (neighbour_stamps st) + s.hold))
-    × (letter_of (forwarded s st) ≡ some (letter_at s ts x c))
+    × (letter_of (forwarded s st) ≡ Some (letter_at s ts x c))

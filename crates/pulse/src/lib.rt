@@ -1,7 +1,7 @@
 // The pulse of one tile of an accepted row, and the letter of what fixed it.
 #![tactic(auto)]
 
-ghost use Rattle.std.specs.Prelude.{◌≡◌, ◌+◌, ◌≤◌, ◌<◌, min, max, length};
+ghost use Rattle.std.specs.Prelude.{◌≡◌, ◌+◌, ◌≤◌, ◌<◌, length};
 ghost use Rattle.settings.specs.Settings.{step_of};
 ghost use Rattle.rule.specs.Clock.{Admitted};
 ghost use Rattle.rule.specs.Closed.{Forwardable};
@@ -19,7 +19,6 @@ use rule::forwarding;
 use rule::forwarding::SILENT;
 use rule::letter::Letter;
 use settings::Settings;
-use settings::rounding::{larger, smaller};
 
 #[derive(Clone, Copy)]
 pub struct Pulsed {
@@ -45,15 +44,18 @@ pub fn pulse(
     let clock = clock(drifts, phases, c);
     let first = first_sender(width, c);
     let at = first_link(width, c);
-    let place = c - first;
     let x = stamp(clock, before, marks, links, first, at, 0);
     let y = stamp(clock, before, marks, links, first, at, 1);
     let z = stamp(clock, before, marks, links, first, at, 2);
+    let (own, a, b) = own_first(c - first, x, y, z);
     if four_senders(width, c) {
         let d = stamp(clock, before, marks, links, first, at, 3);
-        return among_four(settings, step, clock, place, x, y, z, d);
+        let least = a.min(b).min(d);
+        let most = a.max(b).max(d);
+        by_ends(settings, step, clock, own, least, most)
+    } else {
+        by_ends(settings, step, clock, own, a.min(b), a.max(b))
     }
-    among_three(settings, step, clock, place, x, y, z)
 }
 
 // The clock of a tile.
@@ -61,54 +63,21 @@ pub fn clock(drifts: &[u32], phases: &[u32], c: usize) -> Clock
     requires { (c < length drifts.now) × (c < length phases.now) }
     ensures { result ≡ clock_of drifts.now phases.now c }
 {
-    let drift = drifts[c] as u64;
-    let phase = phases[c] as u64;
-    Clock { drift, phase }
+    Clock {
+        drift: u64::from(drifts[c]),
+        phase: u64::from(phases[c]),
+    }
 }
 
-// The pulse of a tile with three predecessors, by their stamps in order, own's at the place.
-fn among_three(
-    settings: Settings,
-    step: u64,
-    clock: Clock,
-    place: usize,
-    x: u64,
-    y: u64,
-    z: u64,
-) -> Pulsed
-    requires arranged { arranged place (λ own a b. Forwardable settings.unit step own (min a b) (max a b)) x y z }
-    requires admitted { Admitted clock × (0 < settings.hold) × (settings.hold ≤ 1000000) }
-    ensures { result ≡ arranged place (λ own a b. pulsed settings step clock own (min a b) (max a b)) x y z }
+// Three adjacent predecessors' stamps, own's at the place: own's first, then the others' in their order.
+fn own_first(place: usize, x: u64, y: u64, z: u64) -> (u64, u64, u64)
+    ensures { arranged place (λ own a b. (result.0 ≡ own) × (result.1 ≡ a) × (result.2 ≡ b)) x y z }
 {
-    if place == 0 {
-        return of_two(settings, step, clock, x, y, z);
+    match place {
+        0 => (x, y, z),
+        1 => (y, x, z),
+        _ => (z, x, y),
     }
-    if place == 1 {
-        return of_two(settings, step, clock, y, x, z);
-    }
-    of_two(settings, step, clock, z, x, y)
-}
-
-// The same with four. Own's is the second or the third.
-fn among_four(
-    settings: Settings,
-    step: u64,
-    clock: Clock,
-    place: usize,
-    x: u64,
-    y: u64,
-    z: u64,
-    d: u64,
-) -> Pulsed
-    requires arranged { arranged place (λ own a b. Forwardable settings.unit step own (min (min a b) d) (max (max a b) d)) x y z }
-    requires admitted { Admitted clock × (0 < settings.hold) × (settings.hold ≤ 1000000) }
-    requires place_nonzero { 0 < place }
-    ensures { result ≡ arranged place (λ own a b. pulsed settings step clock own (min (min a b) d) (max (max a b) d)) x y z }
-{
-    if place == 1 {
-        return of_three(settings, step, clock, y, x, z, d);
-    }
-    of_three(settings, step, clock, z, x, y, d)
 }
 
 // The stamp of what a sender's link brings, by the sender's place in the window, whose first column
@@ -161,27 +130,7 @@ pub fn correct(
     let a = received(clock, before, links, c - 1, at);
     let own = received(clock, before, links, c, at + 1);
     let b = received(clock, before, links, c + 1, at + 2);
-    of_two(settings, step, clock, own, a, b)
-}
-
-// The pulse of a tile with two neighbours.
-fn of_two(settings: Settings, step: u64, clock: Clock, own: u64, a: u64, b: u64) -> Pulsed
-    requires forwardable { Forwardable settings.unit step own (min a b) (max a b) }
-    requires admitted { Admitted clock × (0 < settings.hold) × (settings.hold ≤ 1000000) }
-    ensures { result ≡ pulsed settings step clock own (min a b) (max a b) }
-{
-    by_ends(settings, step, clock, own, smaller(a, b), larger(a, b))
-}
-
-// The pulse of a tile with three.
-fn of_three(settings: Settings, step: u64, clock: Clock, own: u64, a: u64, b: u64, d: u64) -> Pulsed
-    requires forwardable { Forwardable settings.unit step own (min (min a b) d) (max (max a b) d) }
-    requires admitted { Admitted clock × (0 < settings.hold) × (settings.hold ≤ 1000000) }
-    ensures { result ≡ pulsed settings step clock own (min (min a b) d) (max (max a b) d) }
-{
-    let least = smaller(smaller(a, b), d);
-    let most = larger(larger(a, b), d);
-    by_ends(settings, step, clock, own, least, most)
+    by_ends(settings, step, clock, own, a.min(b), a.max(b))
 }
 
 // By own's stamp and the earliest and latest of the neighbours'.
@@ -191,10 +140,8 @@ fn by_ends(settings: Settings, step: u64, clock: Clock, own: u64, least: u64, mo
     ensures { result ≡ pulsed settings step clock own least most }
 {
     let fixed = forwarding::adopted(settings.unit, step, own, least, most);
-    let letter = fixed.letter;
-    let read = fixed.p + settings.hold;
     Pulsed {
-        time: clock.first_tick(read),
-        letter,
+        time: clock.first_tick(fixed.p + settings.hold),
+        letter: fixed.letter,
     }
 }

@@ -4,16 +4,16 @@ use mathlib.Core.List.{List, ◌∷◌, ◌++◌}
 use Prim.Native.Nat.{ℕ, ◌≤◌, ◌<◌}
 use lib.ListN.{take}
 use native.Mathlib.Omega.{arith}
-use borrow.Author.Tests.{eq-eqb}
+use Rattle.settings.proofs.Laws.Refusal.{none_of}
 use Rattle.runs.specs.Reach.{apart}
 use Rattle.reach.specs.Survey.{largest_of}
 use Rattle.reach.specs.Promises.{LargestEnough}
 use Rattle.reach.proofs.Promises.{largest_enough}
-use Rattle.steps.specs.Number.{settings_number}
+use Rattle.steps.specs.Number.{settings_field_cause, settings_number, start_cause, start_number}
 use Rattle.file.specs.Limits.{settings_of, after_settings, start_of, after_start, calls_of, rows_of}
-use Rattle.file.proofs.Promises.{start_at, rows_place, settings_accepted, start_accepted, first_row, few_rows}
+use Rattle.file.proofs.Promises.{rows_place, settings_accepted, start_accepted, first_row, few_rows}
 use Rattle.search_lines.specs.Text.{largest_text}
-use Rattle.range.specs.File.{start_told, file_told, search_text}
+use Rattle.range.specs.File.{or_told, start_told, file_told, search_text}
 use Rattle.range.specs.Read.{last_number}
 use Rattle.range.specs.Promises.{gaps_text, WholeTold, CutTold, TwoFiles, pulse_of, FileRange, Unasked}
 use Rattle.range.proofs.Laws.Unasked.{unasked_same}
@@ -27,10 +27,10 @@ unfolding Unasked
 unasked asked file n = unasked_same asked n file
 
 pub whole_told : WholeTold
-unfolding WholeTold search_text file_told start_told settings_of start_of rows_of calls_of after_settings after_start
+unfolding WholeTold search_text file_told start_told or_told settings_number start_number settings_of start_of rows_of calls_of after_settings after_start
 whole_told asked file k h =
     let s = settings_of file in
-    rw (eq-eqb (settings_number file) 0 (settings_accepted file k), eq-eqb (start_at file) 0 (start_accepted file k))
+    rw (none_of (settings_field_cause file) (settings_accepted file k), none_of (start_cause (settings_of file) (after_settings file)) (start_accepted file k))
     (rows_whole s asked s.rows 0 (rows_place file) 0 (start_of file) (after_start file) k.rows_keep (first_row file k) (omega arith) (omega (arith, few_rows file k)) h)
 
 pub cut_told : CutTold

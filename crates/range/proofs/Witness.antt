@@ -7,9 +7,9 @@ use lib.Dec.{eqb, lit<}
 use lib.ListN.{replicate}
 use native.Mathlib.Omega.{arith}
 use borrow.Author.Tests.{eqb-true, not-false}
-use Rattle.settings.specs.Refusal.{first, outside, any_below}
+use Rattle.settings.specs.Refusal.{first, or_else, outside, any_below}
 use Rattle.settings.specs.Rounding.{up}
-use Rattle.settings.specs.Settings.{settings, step, step_of, drift_cost, settings_tests, settings_refusal}
+use Rattle.settings.specs.Settings.{settings, step, step_of, drift_cost, settings_tests, settings_cause, settings_refusal}
 use Rattle.settings.specs.declared.Settings.{Settings}
 use Rattle.settings.proofs.Laws.AnyBelow.{none_below}
 use Rattle.rule.specs.Clock.{reads, first_tick}
@@ -21,18 +21,18 @@ use Rattle.columns.specs.Columns.{are_neighbours, columns_from, neighbours, is_p
 use Rattle.columns.specs.Marks.{marked, mark_bytes, faulty_among}
 use Rattle.links.specs.Links.{bad_value, bad_link, bad_links}
 use Rattle.admission.specs.Call.{Call, call}
-use Rattle.admission.specs.Refusal.{lengths_are, lengths_right, stray_mark, late_time, crowded, over, row_tests, row_refusal}
+use Rattle.admission.specs.Refusal.{lengths_are, lengths_right, stray_mark, late_time, crowded, over, row_tests, row_cause, row_refusal}
 use Rattle.pulse.specs.Pulse.{arrives, arrival, read_at, stamp, pulse}
 use Rattle.row.specs.Row.{row_of}
 use Rattle.runs.specs.Run.{rows, call_at, row_at}
 use Rattle.runs.specs.Reach.{Alike}
 use Rattle.fields.specs.Bytes.{big_endian}
-use Rattle.fields.specs.Field.{field_tests, field_refusal, body, or_else}
+use Rattle.fields.specs.Field.{field_tests, field_cause, field_refusal, body}
 use Rattle.contents.specs.Contents.{settings_in, times_in, late_start, tile_place, drifts_in, phases_in, tile_links, links_below, links_in, marks_field, row_size, marks_in, tiles_in, call_in}
-use Rattle.steps.specs.Number.{settings_number, start_number, row_number, row_offset}
+use Rattle.steps.specs.Number.{settings_field_cause, start_cause, row_fields_cause, row_offset}
 use Rattle.steps.specs.Shown.{row_shown, no_marks, number_shown}
 use Rattle.file.specs.Cases.{put, printed_file}
-use Rattle.file.specs.File.{rows_shown, start_shown, shown}
+use Rattle.file.specs.File.{or_shown, rows_shown, start_shown, shown}
 use Rattle.file.specs.Limits.{settings_of, after_settings, start_of, after_start, calls_in, calls_of, rows_of}
 use Rattle.range.specs.Read.{last_number}
 use Rattle.range.specs.Promises.{TwoFiles, pulse_of, FileRange}
@@ -42,11 +42,11 @@ use Rattle.range.proofs.Cases.{printed_cases, read_cases}
 
 -- neither is turned away
 first_accepted : number_shown (shown printed_file) ≡ 0
-unfolding printed_file put at_1000 broken_file shown start_shown rows_shown row_shown no_marks number_shown settings_number start_number row_number row_offset call_in tiles_in marks_in row_size marks_field links_in links_below tile_links phases_in drifts_in tile_place late_start times_in settings_in or_else body field_refusal field_tests big_endian row_of stamp read_at arrival arrives pulse row_refusal row_tests over crowded late_time stray_mark lengths_right lengths_are call bad_links bad_link bad_value faulty_among mark_bytes marked any_of table_from link link_place place_in links_before predecessors is_predecessor neighbours columns_from are_neighbours tile_pulse tile_P P heard_correction D least_to larger_at stamp_of latest earliest later earlier natural smaller larger first_tick reads settings_refusal settings_tests drift_cost step_of step settings up any_below outside first
+unfolding printed_file put at_1000 broken_file shown start_shown rows_shown or_shown row_shown no_marks number_shown settings_field_cause start_cause row_fields_cause row_offset call_in tiles_in marks_in row_size marks_field links_in links_below tile_links phases_in drifts_in tile_place late_start times_in settings_in or_else body field_refusal field_cause field_tests big_endian row_of stamp read_at arrival arrives pulse row_refusal row_cause row_tests over crowded late_time stray_mark lengths_right lengths_are call bad_links bad_link bad_value faulty_among mark_bytes marked any_of table_from link link_place place_in links_before predecessors is_predecessor neighbours columns_from are_neighbours tile_pulse tile_P P heard_correction D least_to larger_at stamp_of latest earliest later earlier natural smaller larger first_tick reads settings_refusal settings_cause settings_tests drift_cost step_of step settings up any_below outside first
 first_accepted = refl
 
 second_accepted : number_shown (shown broken_file) ≡ 0
-unfolding printed_file put at_1000 broken_file shown start_shown rows_shown row_shown no_marks number_shown settings_number start_number row_number row_offset call_in tiles_in marks_in row_size marks_field links_in links_below tile_links phases_in drifts_in tile_place late_start times_in settings_in or_else body field_refusal field_tests big_endian row_of stamp read_at arrival arrives pulse row_refusal row_tests over crowded late_time stray_mark lengths_right lengths_are call bad_links bad_link bad_value faulty_among mark_bytes marked any_of table_from link link_place place_in links_before predecessors is_predecessor neighbours columns_from are_neighbours tile_pulse tile_P P heard_correction D least_to larger_at stamp_of latest earliest later earlier natural smaller larger first_tick reads settings_refusal settings_tests drift_cost step_of step settings up any_below outside first
+unfolding printed_file put at_1000 broken_file shown start_shown rows_shown or_shown row_shown no_marks number_shown settings_field_cause start_cause row_fields_cause row_offset call_in tiles_in marks_in row_size marks_field links_in links_below tile_links phases_in drifts_in tile_place late_start times_in settings_in or_else body field_refusal field_cause field_tests big_endian row_of stamp read_at arrival arrives pulse row_refusal row_cause row_tests over crowded late_time stray_mark lengths_right lengths_are call bad_links bad_link bad_value faulty_among mark_bytes marked any_of table_from link link_place place_in links_before predecessors is_predecessor neighbours columns_from are_neighbours tile_pulse tile_P P heard_correction D least_to larger_at stamp_of latest earliest later earlier natural smaller larger first_tick reads settings_refusal settings_cause settings_tests drift_cost step_of step settings up any_below outside first
 second_accepted = refl
 
 -- what they describe
@@ -131,11 +131,11 @@ alike =
     same_of c j p q e = not-false _ (unfold link_differs in (rw (p, q) at e))
 
 first_pulse : pulse_of printed_file 1 3 ≡ 1536
-unfolding pulse_of rows_of rows row_at printed_file put at_1000 broken_file settings_of after_settings start_of after_start calls_in calls_of settings_number start_number row_number row_offset call_in tiles_in marks_in row_size marks_field links_in links_below tile_links phases_in drifts_in tile_place late_start times_in settings_in or_else body field_refusal field_tests big_endian row_of stamp read_at arrival arrives pulse row_refusal row_tests over crowded late_time stray_mark lengths_right lengths_are call bad_links bad_link bad_value faulty_among mark_bytes marked any_of table_from link link_place place_in links_before predecessors is_predecessor neighbours columns_from are_neighbours tile_pulse tile_P P heard_correction D least_to larger_at stamp_of latest earliest later earlier natural smaller larger first_tick reads settings_refusal settings_tests drift_cost step_of step settings up any_below outside first
+unfolding pulse_of rows_of rows row_at printed_file put at_1000 broken_file settings_of after_settings start_of after_start calls_in calls_of settings_field_cause start_cause row_fields_cause row_offset call_in tiles_in marks_in row_size marks_field links_in links_below tile_links phases_in drifts_in tile_place late_start times_in settings_in or_else body field_refusal field_cause field_tests big_endian row_of stamp read_at arrival arrives pulse row_refusal row_cause row_tests over crowded late_time stray_mark lengths_right lengths_are call bad_links bad_link bad_value faulty_among mark_bytes marked any_of table_from link link_place place_in links_before predecessors is_predecessor neighbours columns_from are_neighbours tile_pulse tile_P P heard_correction D least_to larger_at stamp_of latest earliest later earlier natural smaller larger first_tick reads settings_refusal settings_cause settings_tests drift_cost step_of step settings up any_below outside first
 first_pulse = refl
 
 second_pulse : pulse_of broken_file 1 3 ≡ 1464
-unfolding pulse_of rows_of rows row_at printed_file put at_1000 broken_file settings_of after_settings start_of after_start calls_in calls_of settings_number start_number row_number row_offset call_in tiles_in marks_in row_size marks_field links_in links_below tile_links phases_in drifts_in tile_place late_start times_in settings_in or_else body field_refusal field_tests big_endian row_of stamp read_at arrival arrives pulse row_refusal row_tests over crowded late_time stray_mark lengths_right lengths_are call bad_links bad_link bad_value faulty_among mark_bytes marked any_of table_from link link_place place_in links_before predecessors is_predecessor neighbours columns_from are_neighbours tile_pulse tile_P P heard_correction D least_to larger_at stamp_of latest earliest later earlier natural smaller larger first_tick reads settings_refusal settings_tests drift_cost step_of step settings up any_below outside first
+unfolding pulse_of rows_of rows row_at printed_file put at_1000 broken_file settings_of after_settings start_of after_start calls_in calls_of settings_field_cause start_cause row_fields_cause row_offset call_in tiles_in marks_in row_size marks_field links_in links_below tile_links phases_in drifts_in tile_place late_start times_in settings_in or_else body field_refusal field_cause field_tests big_endian row_of stamp read_at arrival arrives pulse row_refusal row_cause row_tests over crowded late_time stray_mark lengths_right lengths_are call bad_links bad_link bad_value faulty_among mark_bytes marked any_of table_from link link_place place_in links_before predecessors is_predecessor neighbours columns_from are_neighbours tile_pulse tile_P P heard_correction D least_to larger_at stamp_of latest earliest later earlier natural smaller larger first_tick reads settings_refusal settings_cause settings_tests drift_cost step_of step settings up any_below outside first
 second_pulse = refl
 
 files : TwoFiles printed_file broken_file 0 3

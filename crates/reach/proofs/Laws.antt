@@ -3,6 +3,6 @@ pub mod Neighbours
 pub mod Span
 pub mod Search
 pub mod Gap
+pub mod Answers
 pub mod Survey
 pub mod Range
-pub mod Answers

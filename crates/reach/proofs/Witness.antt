@@ -3,23 +3,23 @@ use mathlib.Core.Path.{◌≡◌, refl}
 use mathlib.Core.List.{◌∷◌}
 use lib.Dec.{lit<, lit≤}
 use lib.ListN.{length, take}
-use Rattle.settings.specs.Refusal.{first, outside}
+use Rattle.settings.specs.Refusal.{first, or_else, answer, outside}
 use Rattle.settings.specs.Rounding.{up}
-use Rattle.settings.specs.Settings.{settings, drift_cost, settings_tests, settings_refusal}
+use Rattle.settings.specs.Settings.{settings, drift_cost, settings_tests, settings_cause}
 use Rattle.columns.specs.Columns.{are_neighbours, columns_from, neighbours}
 use Rattle.runs.specs.Run.{rows, row_at}
 use Rattle.runs.specs.Reach.{apart, widest, gap_below, widest_gap, reach_ticks}
 use Rattle.runs.specs.Witness.{wall, row_0, first_run, second_run, first_rows, Witnessed, RowsMet}
 use Rattle.runs.proofs.Witness.{witnessed, rows_met}
 use Rattle.reach.specs.Span.{end_within, first_within, last_within}
-use Rattle.reach.specs.Search.{gap_of, outside_wall, reach_of, reach_in_row}
+use Rattle.reach.specs.Search.{gap_of, outside_wall, range_of, range_within, reach_of, reach_in_row}
 use Rattle.reach.specs.Survey.{last_reach, largest_of}
-use Rattle.reach.specs.Answers.{gap_number, gap_B, reached_number, reached_outside, reached_ticks, reached_first, reached_last, GapIs, ReachedIs}
+use Rattle.reach.specs.Answers.{gap_B, reached_outside, reached_ticks, reached_first, reached_last, GapIs, ReachedIs}
 use Rattle.reach.specs.Promises.{SearchRange, LargestEnough}
 use Rattle.reach.specs.Witness.{AnswerMet, SearchRangeMet, LargestEnoughMet}
 
 pub answer_met : AnswerMet
-unfolding AnswerMet GapIs gap_number gap_B gap_of row_at first_rows widest_gap gap_below widest apart neighbours columns_from are_neighbours wall settings settings_refusal settings_tests first outside drift_cost up ReachedIs reached_number reached_outside reached_ticks reached_first reached_last reach_in_row reach_of outside_wall reach_ticks end_within first_within last_within
+unfolding AnswerMet GapIs gap_B gap_of row_at first_rows widest_gap gap_below widest apart neighbours columns_from are_neighbours wall settings settings_cause settings_tests first or_else answer outside drift_cost up ReachedIs reached_outside reached_ticks reached_first reached_last reach_in_row reach_of range_within range_of outside_wall reach_ticks end_within first_within last_within
 answer_met = ((refl, refl), (refl, refl, refl, refl, refl))
 
 all_rows : length (rows wall first_run row_0) ≡ wall.rows

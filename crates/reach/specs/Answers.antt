@@ -1,98 +1,80 @@
 -- What the answers say: their number, whether they lie outside the wall, and each of their values. The statements are proved in
 -- proofs/Promises.antt, under their names in small letters. Assumes nothing.
-use Rattle.std.specs.Prelude.{◌≡◌, Bool, true, false, List, ◌⊎◌, ℕ, ◌-◌, ◌≤◌, ◌<◌, max, length}
-use Rattle.std.proofs.Math.Option.{Option, none, some}
+use Rattle.std.specs.Prelude.{◌≡◌, Bool, true, false, List, ◌⊎◌, ℕ, ◌-◌, ◌≤◌, ◌<◌, max, length, Option, Some, None, Result, Ok, Err}
+use Rattle.std.proofs.Math.Option.{none, some}
+use Rattle.std.proofs.Math.Option as maybe
+use Rattle.settings.specs.Refusal.{number_in}
 use Rattle.settings.specs.Settings.{settings_refusal}
 use Rattle.settings.specs.declared.Settings.{Settings}
+use Rattle.settings.specs.declared.refusal.Refusal.{Refusal}
 use Rattle.rule.specs.Stamp.{latest_stamp}
 use Rattle.runs.specs.Reach.{widest_gap, reach_ticks}
 use Rattle.reach.specs.Span.{first_within, last_within}
 use Rattle.reach.specs.Search.{gap_of, reach_of, reach_in_row}
 use Rattle.reach.specs.Survey.{surveyed_of, last_reach}
-use Rattle.reach.specs.declared.Gap.{Gap}
-use Rattle.reach.specs.declared.Gap.TheVariants as gap
-use Rattle.reach.specs.declared.Reached.{Reached}
-use Rattle.reach.specs.declared.Reached.TheVariants as reached
+use Rattle.reach.specs.declared.Range.{Range}
 use Rattle.reach.specs.declared.survey.Surveyed.{Surveyed}
-use Rattle.reach.specs.declared.survey.Surveyed.TheVariants as surveyed
-
--- §13.3 B of a row: the number that each case stands for, 0 for B
-unfoldable pub gap_number : Gap → ℕ
-gap_number (gap.Widest b) = 0
-gap_number (gap.Refused n) = n
 
 -- §13.3 the B that an answer has
-unfoldable pub gap_B : Gap → Option ℕ
-gap_B (gap.Widest b) = some b
-gap_B (gap.Refused n) = none
+unfoldable pub gap_B : Result ℕ Refusal → maybe.Option ℕ
+gap_B (Ok b) = some b
+gap_B (Err n) = none
 
--- §13.3 a reach: the number that each case stands for; what is outside the wall has none
-unfoldable pub reached_number : Reached → ℕ
-reached_number (reached.Within r) = 0
-reached_number reached.Outside = 0
-reached_number (reached.Refused n) = n
-
--- §13.3 whether it is outside the wall
-unfoldable pub reached_outside : Reached → Bool
-reached_outside (reached.Within r) = false
-reached_outside reached.Outside = true
-reached_outside (reached.Refused n) = false
+-- §13.3 whether a reach is outside the wall
+unfoldable pub reached_outside : Result (Option Range) Refusal → Bool
+reached_outside (Ok (Some x)) = false
+reached_outside (Ok None) = true
+reached_outside (Err n) = false
 
 -- §13.3 its ticks
-unfoldable pub reached_ticks : Reached → Option ℕ
-reached_ticks (reached.Within r) = some r.ticks
-reached_ticks reached.Outside = none
-reached_ticks (reached.Refused n) = none
+unfoldable pub reached_ticks : Result (Option Range) Refusal → maybe.Option ℕ
+reached_ticks (Ok (Some x)) = some x.ticks
+reached_ticks (Ok None) = none
+reached_ticks (Err n) = none
 
 -- §13.3 its first column
-unfoldable pub reached_first : Reached → Option ℕ
-reached_first (reached.Within r) = some r.first
-reached_first reached.Outside = none
-reached_first (reached.Refused n) = none
+unfoldable pub reached_first : Result (Option Range) Refusal → maybe.Option ℕ
+reached_first (Ok (Some x)) = some x.first
+reached_first (Ok None) = none
+reached_first (Err n) = none
 
 -- §13.3 its last column
-unfoldable pub reached_last : Reached → Option ℕ
-reached_last (reached.Within r) = some r.last
-reached_last reached.Outside = none
-reached_last (reached.Refused n) = none
+unfoldable pub reached_last : Result (Option Range) Refusal → maybe.Option ℕ
+reached_last (Ok (Some x)) = some x.last
+reached_last (Ok None) = none
+reached_last (Err n) = none
 
--- §13.3 a survey: the number that each case stands for; what is outside the wall has none
-unfoldable pub surveyed_number : Surveyed → ℕ
-surveyed_number (surveyed.Row b m) = 0
-surveyed_number surveyed.Outside = 0
-surveyed_number (surveyed.Refused n) = n
-
--- §13.3 whether it is outside the wall
-unfoldable pub surveyed_outside : Surveyed → Bool
-surveyed_outside (surveyed.Row b m) = false
-surveyed_outside surveyed.Outside = true
-surveyed_outside (surveyed.Refused n) = false
+-- §13.3 whether a survey is outside the wall
+unfoldable pub surveyed_outside : Result (Option Surveyed) Refusal → Bool
+surveyed_outside (Ok (Some x)) = false
+surveyed_outside (Ok None) = true
+surveyed_outside (Err n) = false
 
 -- §13.3 its B
-unfoldable pub surveyed_B : Surveyed → Option ℕ
-surveyed_B (surveyed.Row b m) = some b
-surveyed_B surveyed.Outside = none
-surveyed_B (surveyed.Refused n) = none
+unfoldable pub surveyed_B : Result (Option Surveyed) Refusal → maybe.Option ℕ
+surveyed_B (Ok (Some x)) = some x.gap
+surveyed_B (Ok None) = none
+surveyed_B (Err n) = none
 
 -- §13.3 its largest reach
-unfoldable pub surveyed_largest : Surveyed → Option ℕ
-surveyed_largest (surveyed.Row b m) = some m
-surveyed_largest surveyed.Outside = none
-surveyed_largest (surveyed.Refused n) = none
+unfoldable pub surveyed_largest : Result (Option Surveyed) Refusal → maybe.Option ℕ
+surveyed_largest (Ok (Some x)) = some x.largest
+surveyed_largest (Ok None) = none
+surveyed_largest (Err n) = none
 
 -- §13.3 an answer for B by its number and value
-unfoldable pub GapIs : Gap → (number : ℕ) → (B : Option ℕ) → Type 0
-GapIs a n b = (gap_number a ≡ n) × (gap_B a ≡ b)
+unfoldable pub GapIs : Result ℕ Refusal → (number : ℕ) → (B : maybe.Option ℕ) → Type 0
+GapIs a n b = (number_in a ≡ n) × (gap_B a ≡ b)
 
 -- §13.3 a reach by its number and values
-unfoldable pub ReachedIs : Reached → (number : ℕ) → (outside : Bool) → (ticks first last : Option ℕ) → Type 0
+unfoldable pub ReachedIs : Result (Option Range) Refusal → (number : ℕ) → (outside : Bool) → (ticks first last : maybe.Option ℕ) → Type 0
 ReachedIs a n o t i j =
-    (reached_number a ≡ n) × (reached_outside a ≡ o) × (reached_ticks a ≡ t) × (reached_first a ≡ i) × (reached_last a ≡ j)
+    (number_in a ≡ n) × (reached_outside a ≡ o) × (reached_ticks a ≡ t) × (reached_first a ≡ i) × (reached_last a ≡ j)
 
 -- §13.3 a survey by its number and values
-unfoldable pub SurveyedIs : Surveyed → (number : ℕ) → (outside : Bool) → (B largest : Option ℕ) → Type 0
+unfoldable pub SurveyedIs : Result (Option Surveyed) Refusal → (number : ℕ) → (outside : Bool) → (B largest : maybe.Option ℕ) → Type 0
 SurveyedIs a n o b m =
-    (surveyed_number a ≡ n) × (surveyed_outside a ≡ o) × (surveyed_B a ≡ b) × (surveyed_largest a ≡ m)
+    (number_in a ≡ n) × (surveyed_outside a ≡ o) × (surveyed_B a ≡ b) × (surveyed_largest a ≡ m)
 
 -- §15.1 1 to 9; 21 for a row that has not W times; otherwise B
 pub record GapAnswer (s : Settings) (row : List ℕ) : Type 0 where

@@ -1,9 +1,10 @@
 -- What a search has to cover, in the words of the answers: of any row of a wall, and of two runs side by side. Each statement is
 -- proved in proofs/Promises.antt, under its name in small letters. Assumes nothing.
-use Rattle.std.specs.Prelude.{◌≡◌, ◌↔◌, true, false, List, ◌∷◌, ℕ, ◌-◌, ◌≤◌, ◌<◌, length, get_or, take}
+use Rattle.std.specs.Prelude.{◌≡◌, ◌↔◌, true, false, List, ◌∷◌, ℕ, ◌-◌, ◌≤◌, ◌<◌, length, get_or, take, Option, Result}
 use Rattle.std.proofs.Math.Option.{some}
 use Rattle.settings.specs.Settings.{settings_refusal}
 use Rattle.settings.specs.declared.Settings.{Settings}
+use Rattle.settings.specs.declared.refusal.Refusal.{Refusal}
 use Rattle.columns.specs.Columns.{are_neighbours}
 use Rattle.rule.specs.Stamp.{latest_stamp}
 use Rattle.admission.specs.Call.{Call}
@@ -13,7 +14,7 @@ use Rattle.reach.specs.Span.{first_within, last_within}
 use Rattle.reach.specs.Search.{gap_of, reach_of, reach_in_row}
 use Rattle.reach.specs.Survey.{largest_of}
 use Rattle.reach.specs.Answers.{gap_B, reached_ticks, reached_first, reached_last, GapIs, ReachedIs}
-use Rattle.reach.specs.declared.Reached.{Reached}
+use Rattle.reach.specs.declared.Range.{Range}
 
 -- §15.1 what B is: no two neighbours differ by more, and it is no more than has to be
 unfoldable pub BLargest : Type 0
@@ -33,7 +34,7 @@ RowReached =
 
 -- §15.2 what an answer says of two rows: they are the same before its first column and after its last, and differ by at most its ticks.
 -- It has these values, so it is neither outside nor turned away.
-pub record Covers (answer : Reached) (w : ℕ) (here there : List ℕ) : Type 0 where
+pub record Covers (answer : Result (Option Range) Refusal) (w : ℕ) (here there : List ℕ) : Type 0 where
   pub ticks : ℕ
   pub first : ℕ
   pub last : ℕ

@@ -1,30 +1,31 @@
 -- The largest reach over a wall: its rows are gone through in their order, from row 0 to the last but one. Assumes nothing.
-use Rattle.std.specs.Prelude.{◌≡◌, List, [], ◌∷◌, ℕ, suc, ◌-◌, ◌≤◌, ◌<◌, max, length, get_or}
+use Rattle.std.specs.Prelude.{◌≡◌, List, [], ◌∷◌, ℕ, suc, ◌-◌, ◌≤◌, ◌<◌, max, length, get_or, Option, Some, None, Result, Ok, Err}
 use Rattle.settings.specs.Settings.{settings_refusal}
 use Rattle.rule.specs.Stamp.{latest_stamp}
 use Rattle.settings.specs.declared.Settings.{Settings}
+use Rattle.settings.specs.declared.refusal.Refusal.{Refusal}
 use Rattle.runs.specs.Reach.{widest_gap, reach_ticks}
 use Rattle.reach.specs.Search.{gap_of, reach_of}
-use Rattle.reach.specs.declared.Gap.{Gap}
-use Rattle.reach.specs.declared.Gap.TheVariants as gap
-use Rattle.reach.specs.declared.Reached.{Reached}
-use Rattle.reach.specs.declared.Reached.TheVariants as reached
+use Rattle.reach.specs.declared.Range.{Range}
 use Rattle.reach.specs.declared.survey.Surveyed.{Surveyed}
-use Rattle.reach.specs.declared.survey.Surveyed.TheVariants as surveyed
+
+-- §15.3 the record of B of a row and the largest reach so far
+unfoldable pub surveyed : (gap largest : ℕ) → Surveyed
+surveyed b m = record { gap = b; largest = m }
 
 -- §15.3 B of a row, and the larger of its reach and the largest before it
-unfoldable pub with_reach : (gap largest : ℕ) → Reached → Surveyed
-with_reach b m (reached.Within r) = surveyed.Row b (max m r.ticks)
-with_reach b m reached.Outside = surveyed.Outside
-with_reach b m (reached.Refused n) = surveyed.Refused n
+unfoldable pub with_reach : (gap largest : ℕ) → Result (Option Range) Refusal → Result (Option Surveyed) Refusal
+with_reach b m (Ok (Some r)) = Ok (Some (surveyed b (max m r.ticks)))
+with_reach b m (Ok None) = Ok None
+with_reach b m (Err n) = Err n
 
 -- §15.3 the reach of row l is that in the last row, R - l rows later
-unfoldable pub with_gap : Settings → (l largest : ℕ) → Gap → Surveyed
-with_gap s l m (gap.Widest b) = with_reach b m (reach_of s b (s.rows - l) 0)
-with_gap s l m (gap.Refused n) = surveyed.Refused n
+unfoldable pub with_gap : Settings → (l largest : ℕ) → Result ℕ Refusal → Result (Option Surveyed) Refusal
+with_gap s l m (Ok b) = with_reach b m (reach_of s b (s.rows - l) 0)
+with_gap s l m (Err n) = Err n
 
 -- §15.3 row l, with the largest reach of the rows before it
-unfoldable pub surveyed_of : Settings → (l largest : ℕ) → (row : List ℕ) → Surveyed
+unfoldable pub surveyed_of : Settings → (l largest : ℕ) → (row : List ℕ) → Result (Option Surveyed) Refusal
 surveyed_of s l m ts = with_gap s l m (gap_of s ts)
 
 -- §15.3 the reach of a row l in the last row
@@ -41,4 +42,4 @@ unfoldable pub RowSurveyed : Type 0
 RowSurveyed =
     (s : Settings) (l m : ℕ) (ts : List ℕ) → settings_refusal s ≡ 0 → l < s.rows → length ts ≡ s.width →
     ((c : ℕ) → c < s.width → get_or ts c 0 ≤ latest_stamp) →
-    surveyed_of s l m ts ≡ surveyed.Row (widest_gap s.width ts) (max m (last_reach s l ts))
+    surveyed_of s l m ts ≡ Ok (Some (surveyed (widest_gap s.width ts) (max m (last_reach s l ts))))

@@ -5,13 +5,17 @@ use Prim.Native.Nat.{ℕ}
 use native.Mathlib.Omega.{arith}
 use borrow.Author.Tests.{eq-eqb, ne_eqb}
 use Rattle.settings.specs.declared.Settings.{Settings}
-use Rattle.settings.proofs.Laws.Cases.{by_zero}
+use Rattle.std.specs.Prelude.{Result, Ok, Err, IsErrAnd}
+use Rattle.settings.specs.declared.refusal.Refusal.{Refusal}
+use Rattle.settings.specs.Refusal.{answer, number_in}
+use Rattle.settings.proofs.Laws.Refusal.{answered_number, handed_on}
+use Rattle.settings.proofs.Laws.Refusal.{accepted as answer_accepted}
 use Rattle.settings.proofs.Laws.Settings.{limits}
 use Rattle.admission.specs.Call.{Call}
-use Rattle.row.specs.declared.Planned.TheVariants.{Row, Refused}
-use Rattle.row.specs.Row.{row_of, letters_of, least_of, most_of, planned, written, lettered, number_of, earliest_of, latest_of}
+use Rattle.row.specs.declared.Ends.{Ends}
+use Rattle.row.specs.Row.{row_of, letters_of, least_of, most_of, ends_at, planned, written, lettered, earliest_of, latest_of}
 use Rattle.row.specs.Promises.{RowAnswered, RowEnds, RunningEnds}
-use Rattle.admission.specs.Refusal.{row_refusal}
+use Rattle.admission.specs.Refusal.{row_cause, row_refusal}
 use Rattle.pulse.specs.Pulse.{pulsed_at}
 use Rattle.admission.proofs.Laws.Accepted.{accepted}
 use Rattle.pulse.proofs.Laws.Stampable.{pulse_small}
@@ -19,13 +23,15 @@ use Rattle.row.proofs.Laws.Ends.{list_ends}
 use Rattle.row.proofs.Laws.Progress.{row_length, row_at, none_so_far, tile_more, so_far_ends, all_so_far, row_whole, letters_whole}
 
 -- the answer and the row, accepted and refused
-pub planned_accepted : (s : Settings) (ts : List ℕ) (x : Call) → row_refusal s ts x ≡ 0 → planned s ts x ≡ Row (least_of (row_of s ts x)) (most_of (row_of s ts x))
-unfolding planned
-planned_accepted s ts x e = rw (eq-eqb (row_refusal s ts x) 0 e)
+pub planned_accepted : (s : Settings) (ts : List ℕ) (x : Call) → row_refusal s ts x ≡ 0 → planned s ts x ≡ Ok (ends_at (least_of (row_of s ts x)) (most_of (row_of s ts x)))
+unfolding planned row_refusal
+planned_accepted s ts x e = answer_accepted (row_cause s ts x) _ e
 
-pub planned_refused : (s : Settings) (ts : List ℕ) (x : Call) → (row_refusal s ts x ≡ 0 → ⊥) → planned s ts x ≡ Refused (row_refusal s ts x)
+-- a refusal of the check that is handed on
+pub planned_refused : (s : Settings) (ts : List ℕ) (x : Call) (r : Result Ends Refusal) {q : Refusal} →
+    IsErrAnd r (λ d. d ≡ q) → answer (row_cause s ts x) (tt {0}) ≡ Err q → r ≡ planned s ts x
 unfolding planned
-planned_refused s ts x n = rw (ne_eqb (row_refusal s ts x) 0 n)
+planned_refused s ts x r h e = handed_on r (row_cause s ts x) tt (ends_at (least_of (row_of s ts x)) (most_of (row_of s ts x))) h e
 
 pub written_accepted : (s : Settings) (ts : List ℕ) (x : Call) (held : List ℕ) → row_refusal s ts x ≡ 0 → written s ts x held ≡ row_of s ts x
 unfolding written
@@ -44,9 +50,9 @@ unfolding lettered
 lettered_refused s ts x held n = rw (ne_eqb (row_refusal s ts x) 0 n)
 
 -- the answer's number is the call's
-pub planned_number : (s : Settings) (ts : List ℕ) (x : Call) → number_of (planned s ts x) ≡ row_refusal s ts x
-unfolding number_of
-planned_number s ts x = by_zero (row_refusal s ts x) (λ e. rw (planned_accepted s ts x e) (sym e)) (λ n. rw (planned_refused s ts x n))
+pub planned_number : (s : Settings) (ts : List ℕ) (x : Call) → number_in (planned s ts x) ≡ row_refusal s ts x
+unfolding planned row_refusal
+planned_number s ts x = answered_number (row_cause s ts x) _
 
 -- the answer
 pub row_answered : RowAnswered

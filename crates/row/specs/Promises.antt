@@ -1,21 +1,20 @@
 -- What is promised of a row: its answer, its earliest and latest time, and both as the row is filled. Assumes nothing.
-use Rattle.std.specs.Prelude.{◌≡◌, List, ℕ, ◌≤◌, ◌<◌, length, get_or, set}
-use Rattle.std.proofs.Math.Option.{some}
+use Rattle.std.specs.Prelude.{◌≡◌, List, ℕ, ◌≤◌, ◌<◌, length, get_or, set, Some, Ok}
 use Rattle.settings.specs.declared.Settings.{Settings}
+use Rattle.settings.specs.Refusal.{number_in}
 use Rattle.admission.specs.Call.{Call}
 use Rattle.admission.specs.Refusal.{row_refusal}
 use Rattle.rule.specs.Letter.{byte_of}
 use Rattle.pulse.specs.Pulse.{pulse, letter_at}
-use Rattle.row.specs.declared.Planned.TheVariants.{Row}
 use Rattle.row.specs.declared.progress.Progress.{Progress}
-use Rattle.row.specs.Row.{Pulses, pulses, row_of, letters_of, least_of, most_of, planned, written, lettered, number_of, earliest_of, latest_of}
+use Rattle.row.specs.Row.{Pulses, pulses, row_of, letters_of, least_of, most_of, ends_at, planned, written, lettered, earliest_of, latest_of}
 use Rattle.row.specs.Progress.{none_done, with_time, SoFar}
 
 -- §13.4 the answer has the call's number; rows that are turned away hold what they held, those that are accepted hold the pulses (§12.2) and
 -- the letters (§E3.4)
 unfoldable pub RowAnswered : Type 0
 RowAnswered =
-    (s : Settings) (ts : List ℕ) (x : Call) (held : Pulses) → (number_of (planned s ts x) ≡ row_refusal s ts x)
+    (s : Settings) (ts : List ℕ) (x : Call) (held : Pulses) → (number_in (planned s ts x) ≡ row_refusal s ts x)
     × ((row_refusal s ts x ≡ 0 → ⊥) → (written s ts x held.times ≡ held.times) × (lettered s ts x held.letters ≡ held.letters))
     × (row_refusal s ts x ≡ 0 → (written s ts x held.times ≡ row_of s ts x) × (lettered s ts x held.letters ≡ letters_of s ts x))
 
@@ -38,7 +37,7 @@ RowEnds =
     (s : Settings) (ts : List ℕ) (x : Call) (held : List ℕ) → row_refusal s ts x ≡ 0 →
     let earliest = least_of (row_of s ts x) in
     let latest = most_of (row_of s ts x) in
-    (earliest_of (planned s ts x) ≡ some earliest) × (latest_of (planned s ts x) ≡ some latest)
+    (earliest_of (planned s ts x) ≡ Some earliest) × (latest_of (planned s ts x) ≡ Some latest)
     × Ends s.width (written s ts x held) earliest latest
 
 -- §E2.1 how a row is filled: before its first tile, with each tile more, what the running values are after any tile, and after the last
@@ -52,7 +51,7 @@ pub record Filling (s : Settings) (ts : List ℕ) (x : Call) (held : Pulses) : T
       Ends done.next row.times done.earliest done.latest
   pub last : (row : Pulses) (done : Progress) → SoFar s ts x held row done → done.next ≡ s.width →
       (row.times ≡ written s ts x held.times) × (row.letters ≡ lettered s ts x held.letters)
-      × (Row done.earliest done.latest ≡ planned s ts x)
+      × (Ok (ends_at done.earliest done.latest) ≡ planned s ts x)
 
 -- §E2.2 every accepted row is filled so, and its caller is left with the row and the answer of §7.6
 unfoldable pub RunningEnds : Type 0

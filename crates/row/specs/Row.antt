@@ -1,15 +1,15 @@
 -- The rows that a call writes, its times and its letters, and its answer. Assumes nothing.
-use Rattle.std.specs.Prelude.{List, [], ◌∷◌, cond, ℕ, min, max, eqb, take}
-use Rattle.std.proofs.Math.Option.{Option, none, some}
+use Rattle.std.specs.Prelude.{List, [], ◌∷◌, cond, ℕ, min, max, eqb, take, Option, Some, None, Result, Ok, Err}
 use Rattle.settings.specs.declared.Settings.{Settings}
+use Rattle.settings.specs.declared.refusal.Refusal.{Refusal}
+use Rattle.settings.specs.Refusal.{answer}
 use Rattle.rule.specs.Stamp.{silence}
 use Rattle.admission.specs.Call.{Call}
-use Rattle.row.specs.declared.Planned.{Planned}
-use Rattle.row.specs.declared.Planned.TheVariants.{Row, Refused}
+use Rattle.row.specs.declared.Ends.{Ends}
 use Rattle.rule.specs.Letter.{byte_of}
 use Rattle.pulse.specs.Pulse.{pulse, letter_at}
 use Rattle.columns.specs.Columns.{table_from}
-use Rattle.admission.specs.Refusal.{row_refusal}
+use Rattle.admission.specs.Refusal.{row_cause, row_refusal}
 
 -- §E3.4 a row: its times, and its letters
 pub record Pulses : Type 0 where
@@ -46,10 +46,13 @@ unfoldable pub most_of : List ℕ → ℕ
 most_of [] = 0
 most_of (t ∷ ts) = max t (most_of ts)
 
--- §7.6 a call's answer: the earliest and the latest pulse, or the number
-unfoldable pub planned : Settings → (before : List ℕ) → Call → Planned
-planned s ts x =
-    cond (eqb (row_refusal s ts x) 0) (Row (least_of (row_of s ts x)) (most_of (row_of s ts x))) (Refused (row_refusal s ts x))
+-- §7.6 the record of a row's ends
+abbrev pub ends_at : (earliest latest : ℕ) → Ends
+ends_at earliest latest = record { earliest = earliest; latest = latest }
+
+-- §7.6 a call's answer: the earliest and the latest pulse, or why it is turned away
+unfoldable pub planned : Settings → (before : List ℕ) → Call → Result Ends Refusal
+planned s ts x = answer (row_cause s ts x) (ends_at (least_of (row_of s ts x)) (most_of (row_of s ts x)))
 
 -- §13.2 the row to write, after the call: the pulses, or what it held where the call is turned away
 unfoldable pub written : Settings → (before : List ℕ) → Call → (held : List ℕ) → List ℕ
@@ -59,17 +62,12 @@ written s ts x held = cond (eqb (row_refusal s ts x) 0) (row_of s ts x) held
 unfoldable pub lettered : Settings → (before : List ℕ) → Call → (held : List ℕ) → List ℕ
 lettered s ts x held = cond (eqb (row_refusal s ts x) 0) (letters_of s ts x) held
 
--- §13.3 the number of an answer, 0 where the row is accepted
-unfoldable pub number_of : Planned → ℕ
-number_of (Row earliest latest) = 0
-number_of (Refused n) = n
-
 -- §13.3 the earliest time of an answer, where it has one
-unfoldable pub earliest_of : Planned → Option ℕ
-earliest_of (Row earliest latest) = some earliest
-earliest_of (Refused n) = none
+unfoldable pub earliest_of : Result Ends Refusal → Option ℕ
+earliest_of (Ok e) = Some e.earliest
+earliest_of (Err why) = None
 
 -- §13.3 the latest time of an answer, where it has one
-unfoldable pub latest_of : Planned → Option ℕ
-latest_of (Row earliest latest) = some latest
-latest_of (Refused n) = none
+unfoldable pub latest_of : Result Ends Refusal → Option ℕ
+latest_of (Ok e) = Some e.latest
+latest_of (Err why) = None

@@ -9,13 +9,13 @@ ghost use Rattle.row.specs.Row.{planned, written, lettered};
 
 use crate::progress::{Progress, further};
 use settings::Settings;
+use settings::refusal::Refusal;
 
-#[derive(Clone, Copy)]
-pub enum Planned {
-    // The earliest and latest time of the row that was written.
-    Row { earliest: u64, latest: u64 },
-    // 1 to 9, 21 to 26, or 53.
-    Refused(u32),
+// The earliest and latest time of a row that was written.
+#[derive(Clone, Copy, Debug, PartialEq, Eq)]
+pub struct Ends {
+    pub earliest: u64,
+    pub latest: u64,
 }
 
 // Writes the row's times and letters, from the times of the row before, its fault marks, and the drifts,
@@ -29,12 +29,12 @@ pub fn plan(
     links: &[u64],
     times: &mut [u64],
     letters: &mut [u8],
-) -> Planned
+) -> Result<Ends, Refusal>
     ensures answer { result ≡ planned settings before.now (call marks.now drifts.now phases.now links.now (length times.old) (length letters.old)) }
     ensures row { times.new ≡ written settings before.now (call marks.now drifts.now phases.now links.now (length times.old) (length letters.old)) times.old }
     ensures letters { letters.new ≡ lettered settings before.now (call marks.now drifts.now phases.now links.now (length times.old) (length letters.old)) letters.old }
 {
-    let number = admission::refusal(
+    admission::check(
         settings,
         before,
         marks,
@@ -43,19 +43,17 @@ pub fn plan(
         links,
         times.len(),
         letters.len(),
-    );
-    if number != 0 {
-        return Planned::Refused(number);
-    }
+    )?;
     let step = settings::step(settings.unit, settings.drift);
     let mut done = Progress::none();
+    // Not a `for`: a plain stretch is passed over in one go.
     while done.next < times.len() {
         done = further(
             settings, step, before, marks, drifts, phases, links, times, letters, done,
         );
     }
-    Planned::Row {
+    Ok(Ends {
         earliest: done.earliest,
         latest: done.latest,
-    }
+    })
 }

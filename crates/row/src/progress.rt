@@ -11,7 +11,6 @@ use columns::plain;
 use pulse::{Pulsed, clock, correct, pulse};
 use rule::forwarding::SILENT;
 use settings::Settings;
-use settings::rounding::{larger, smaller};
 
 #[derive(Clone, Copy)]
 pub struct Progress {
@@ -40,18 +39,12 @@ impl Progress {
         ensures letters { letters.new ≡ set letters.old self.next (byte_of pulsed.letter) }
         ensures ends { result ≡ with_time self pulsed.time }
     {
-        let c = self.next;
-        let time = pulsed.time;
-        let letter = pulsed.letter;
-        times[c] = time;
-        letters[c] = letter.byte();
-        let next = c + 1;
-        let earliest = smaller(self.earliest, time);
-        let latest = larger(self.latest, time);
+        times[self.next] = pulsed.time;
+        letters[self.next] = pulsed.letter.byte();
         Self {
-            next,
-            earliest,
-            latest,
+            next: self.next + 1,
+            earliest: self.earliest.min(pulsed.time),
+            latest: self.latest.max(pulsed.time),
         }
     }
 }
@@ -81,8 +74,7 @@ pub fn further(
         return done.put(pulsed, times, letters);
     }
     let mut so_far = done;
-    while so_far.next < first + count {
-        let c = so_far.next;
+    for c in first..first + count {
         let clock = clock(drifts, phases, c);
         let pulsed = correct(settings, step, clock, before, links, c);
         so_far = so_far.put(pulsed, times, letters);

@@ -6,76 +6,111 @@
 mod letters;
 mod plan;
 
-use cases::{Numbers, find};
-use plan::{Outcome, planned};
+ghost use Rattle.std.specs.Prelude.{◌≤◌};
+
+use cases::Case;
+use plan::{Lent, Outcome, plan};
+use row_inputs::{Call, FaultyRow, Inputs};
 use std::io;
-use std::io::{Read, Write};
+use std::io::Write;
 
 fn main(rt: HostRuntime) -> io::Result<()> {
-    let mut text = Vec::new(rt.alloc());
-    rt.reader().read_to_end(&mut text)?;
-    run(&mut io::writer(&rt), &text)
-}
-
-fn run(out: &mut impl Write, text: &[u8]) -> io::Result<()> {
-    let mut at = 0;
-    while at < text.len() {
-        let end = find(text, at, b'\n');
-        case(out, &text[at..end])?;
-        at = end + 1;
-    }
-    Ok(())
+    cases::run(&rt, |out, case| write(out, case))
 }
 
 // Writes what a row with a faulty tile came to, or whether a call came out.
-fn case(out: &mut impl Write, line: &[u8]) -> io::Result<()> {
-    let case = cases::read(line);
-    let kind = case.kind;
-    if kind != b'#' {
-        let n = case.numbers;
-        let fits = fits(kind, case.count, n);
-        let given = planned(kind, n);
-        if kind == b'f' && fits && given.refusal == 0 {
-            cases::label(out, line)?;
-            return write(out, given, n.0);
+fn write(out: &mut impl Write, case: &Case<'_>) -> io::Result<()> {
+    match (case.kind, case.numbers) {
+        (b'f', [width, column, arrival, step])
+            if *width <= 256 && *column < *width && *step < 1_000_000 => {
+            let row = FaultyRow {
+                width: *width,
+                column: *column,
+                arrival: *arrival,
+                step: *step,
+            };
+            write_row(out, case, *width as usize, &Inputs::from(row))
         }
-        let right = right(n.14, n.15, given);
-        return cases::report(out, line, kind == b'p' && fits && right);
-    }
-    Ok(())
-}
-
-// Whether a case has its numbers, and those that are not times or link values fit: a width and a
-// column of it and a step of phases, or a call's lengths, mark, drift and phase.
-fn fits(kind: u8, count: usize, n: Numbers) -> bool {
-    match kind {
-        b'f' => count == 4 && n.0 <= 256 && n.1 < n.0 && n.3 < 1_000_000,
-        b'p' => count == 16 && lengths_fit(n) && n.9 < 256 && (n.10 | n.11) < 4_294_967_296,
-        _ => false,
+        (b'p', numbers) => case.report(out, right(numbers)),
+        _ => case.report(out, false),
     }
 }
 
-fn lengths_fit(n: Numbers) -> bool {
-    (n.0 | n.1 | n.2 | n.3 | n.4 | n.5 | n.6) < 1024
+// Writes the earliest and latest time, the digest and the letters of a row.
+fn write_row(out: &mut impl Write, case: &Case<'_>, width: usize, inputs: &Inputs) -> io::Result<()>
+    requires { width ≤ 256 }
+{
+    let given = plan(width as u64, inputs, Lent::of_width(width), 0);
+    match given.answer {
+        Ok(ends) => {
+            case.write_label(out)?;
+            write!(
+                out,
+                " from {} to {} {} ",
+                ends.earliest,
+                ends.latest,
+                digest(&given.row)
+            )?;
+            out.write_all(&given.letters[..width])?;
+            out.write_all(b"\n")
+        }
+        Err(_) => case.report(out, false),
+    }
 }
 
-// Whether a call was turned away with the number that is expected, which leaves the sevens that the
-// row held, or accepted where that is 0, and the letters are those expected.
-fn right(number: u64, letters: u64, given: Outcome) -> bool {
-    let given_letters = given.letters;
-    number == given.refusal
-        && given.sevens == (number != 0)
-        && letters::are(&given_letters, letters)
+// A number that changes with any time and its place.
+fn digest(row: &[u64; 1024]) -> u64 {
+    let mut digest: u64 = 0;
+    for (c, time) in row[..256].iter().enumerate() {
+        digest = (digest * 31 + *time % 65_537 + c as u64) % 4_294_967_291;
+    }
+    digest
 }
 
-// Writes the earliest and latest time, the digest and the letters of a row with a faulty tile.
-fn write(out: &mut impl Write, row: Outcome, width: u64) -> io::Result<()> {
-    let letters = row.letters;
-    write!(
-        out,
-        " from {} to {} {} ",
-        row.earliest, row.latest, row.digest
-    )?;
-    letters::write(out, letters, width)?;
-    out.write_all(b"\n")
+// Whether a call is turned away with the number that a case gives, and leaves the sevens that the row held,
+// or is accepted where that is 0, and leaves the letters that are given.
+fn right(numbers: &[u64]) -> bool {
+    let Some((lengths, rest)) = numbers.split_first_chunk::<7>() else {
+        return false;
+    };
+    let Some(lent) = Lent::of_case(*lengths) else {
+        return false;
+    };
+    let [
+        time,
+        time_3,
+        marks_0,
+        drift_5,
+        phase_5,
+        link_0,
+        link_19,
+        number,
+        letters,
+    ] = rest
+    else {
+        return false;
+    };
+    let (Ok(marks_0), Ok(drift_5), Ok(phase_5)) = (
+        u8::try_from(*marks_0),
+        u32::try_from(*drift_5),
+        u32::try_from(*phase_5),
+    ) else {
+        return false;
+    };
+    let call = Call {
+        time: *time,
+        time_3: *time_3,
+        marks_0,
+        drift_5,
+        phase_5,
+        link_0: *link_0,
+        link_19: *link_19,
+    };
+    let given = plan(6, &Inputs::from(call), lent, 7);
+    let sevens = given.row[..256].iter().all(|time| *time == 7);
+    let turned_away = match given.answer {
+        Ok(_) => 0,
+        Err(refusal) => u64::from(refusal.number()),
+    };
+    turned_away == *number && sevens == (*number != 0) && letters::are(&given.letters, *letters)
 }

@@ -1,11 +1,13 @@
 -- The row that two fields describe, worked out. Assumes nothing.
-use Rattle.std.specs.Prelude.{◌≡◌, cond, List, ℕ, eqb, drop}
+use Rattle.std.specs.Prelude.{◌≡◌, cond, List, ℕ, eqb, drop, Result}
 use Rattle.settings.specs.Settings.{settings_refusal}
 use Rattle.settings.specs.declared.Settings.{Settings}
+use Rattle.settings.specs.declared.refusal.Refusal.{Refusal}
+use Rattle.settings.specs.Refusal.{or_else, answer, number_in}
 use Rattle.row.specs.Row.{Pulses, next_pulses}
 use Rattle.columns.specs.Marks.{mark_bytes}
-use Rattle.admission.specs.Refusal.{row_refusal}
-use Rattle.fields.specs.Field.{field_refusal, or_else}
+use Rattle.admission.specs.Refusal.{row_cause}
+use Rattle.fields.specs.Field.{field_cause, field_refusal}
 use Rattle.contents.specs.Contents.{marks_field, tiles_size, call_in}
 
 -- §7.1 a row can be worked out: its settings pass, its marks are there, and the rows are W long
@@ -16,9 +18,9 @@ pub record Plannable (s : Settings) (part : List ℕ) (before times letters : �
   pub times_long : times ≡ s.width
   pub letters_long : letters ≡ s.width
 
--- §9.7 the number of tag 4's field or of the row call; and the row where it is 0, otherwise what was held
-pub record WorkedOut (s : Settings) (part before : List ℕ) (held : Pulses) (number : ℕ) (row : Pulses) : Type 0 where
+-- §9.7 the refusal of tag 4's field or of the row call; and the row where there is none, otherwise what was held
+pub record WorkedOut (s : Settings) (part before : List ℕ) (held : Pulses) (result : Result Unit Refusal) (row : Pulses) : Type 0 where
   pub answered :
-      number
-      ≡ or_else (field_refusal 4 (tiles_size s.width) (drop (marks_field s.width) part)) (row_refusal s before (call_in s.width part))
-  pub wrote : row ≡ cond (eqb number 0) (next_pulses s before (call_in s.width part)) held
+      result
+      ≡ answer (or_else (field_cause 4 (tiles_size s.width) (drop (marks_field s.width) part)) (row_cause s before (call_in s.width part))) tt
+  pub wrote : row ≡ cond (eqb (number_in result) 0) (next_pulses s before (call_in s.width part)) held

@@ -6,10 +6,10 @@ ghost use Rattle.contents.specs.Contents.{row_size};
 ghost use Rattle.row.specs.Row.{pulses};
 ghost use Rattle.row_fields.specs.Worked.{Plannable, WorkedOut};
 
-use row::Planned;
 use settings::Settings;
+use settings::refusal::Refusal;
 
-// Works out the row that tags 3 and 4 describe, or answers its number. `links` is room for its link values.
+// Works out the row that tags 3 and 4 describe, or answers why it is turned away. `links` is room for its link values.
 pub fn plan(
     settings: Settings,
     part: &[u8],
@@ -17,7 +17,7 @@ pub fn plan(
     links: &mut [u64],
     times: &mut [u64],
     letters: &mut [u8],
-) -> u32
+) -> Result<(), Refusal>
     requires { Plannable settings part.now (length before.now) (length times.old) (length letters.old) × (770 ≤ length links.old) }
     ensures { WorkedOut settings part.now before.now (pulses times.old letters.old) result (pulses times.new letters.new) }
 {
@@ -46,7 +46,7 @@ fn plan_in(
     links: &mut [u64],
     times: &mut [u64],
     letters: &mut [u8],
-) -> u32
+) -> Result<(), Refusal>
     requires plannable { Plannable settings part.now (length before.now) (length times.old) (length letters.old) }
     requires drifts_len { (length drifts.old ≡ settings.width) × (length phases.old ≡ settings.width) × (length links.old ≡ 3 * settings.width + 2) }
     ensures { WorkedOut settings part.now before.now (pulses times.old letters.old) result (pulses times.new letters.new) }
@@ -55,12 +55,9 @@ fn plan_in(
     let marks = (width + 7) / 8;
     let size = 30 * width + 16;
     let rest = &part[3 + marks..];
-    let number = fields::refusal(4, size, rest);
-    if number != 0 {
-        return number;
-    }
+    fields::check(4, size, rest)?;
     contents::tiles(width, fields::body(size, rest), drifts, phases, links);
-    let answer = row::plan(
+    row::plan(
         settings,
         before,
         fields::body(marks, part),
@@ -69,14 +66,8 @@ fn plan_in(
         links,
         times,
         letters,
-    );
-    match answer {
-        Planned::Row {
-            earliest: _,
-            latest: _,
-        } => 0,
-        Planned::Refused(number) => number,
-    }
+    )?;
+    Ok(())
 }
 
 // Room for the drifts of any row, or for its phases.

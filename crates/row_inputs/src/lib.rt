@@ -1,100 +1,115 @@
-// What a case hands to the row operation, made from a few numbers: by kind f for a row with a faulty
-// tile, and else for a call.
+// What a case hands to the row operation, made from a few numbers.
 #![tactic(auto)]
 
-ghost use Rattle.std.specs.Prelude.{◌≡◌, ◌<◌, ◌^◌, length};
+ghost use Rattle.std.specs.Prelude.{◌≡◌, ◌+◌, ◌*◌, ◌%◌, ◌≤◌, ◌<◌, slice_index, EachIndex};
 
-use cases::Numbers;
+use std::array;
 
-// Times that step up and down along the row, or are the same but at column 3.
-pub fn times(kind: u8, most: u64, at_3: u64) -> [u64; 1024]
-    ensures { 1024 ≡ length result }
-{
-    let mut all = [most; 1024];
-    if kind == b'f' {
-        let mut c: u64 = 0;
-        while c < 256 {
-            all[c as usize] = 1_000_000 + c * 37 % 101;
-            c += 1;
+// A case lends as much of each from the front as it says.
+#[derive(Clone, Copy)]
+pub struct Inputs {
+    pub times: [u64; 1024],
+    pub marks: [u8; 1024],
+    pub drifts: [u32; 1024],
+    pub phases: [u32; 1024],
+    // The link values, tile after tile.
+    pub links: [u64; 1024],
+}
+
+// A row of up to 256 tiles, one of which is faulty.
+#[derive(Clone, Copy)]
+pub struct FaultyRow {
+    pub width: u64,
+    // The faulty tile's column.
+    pub column: u64,
+    // When all its pulses arrive.
+    pub arrival: u64,
+    // By how much a tile's phase is above that of the tile before it.
+    pub step: u64,
+}
+
+// A call, in which all values of a kind are the same but for these.
+#[derive(Clone, Copy)]
+pub struct Call {
+    pub time: u64,
+    pub time_3: u64,
+    // The first byte of marks.
+    pub marks_0: u8,
+    pub drift_5: u32,
+    pub phase_5: u32,
+    pub link_0: u64,
+    pub link_19: u64,
+}
+
+impl From<FaultyRow> for Inputs {
+    ghost from_gives = { λ row inputs. EachIndex inputs.times (λ c. slice_index inputs.times c ≡ 1000000 + c * 37 % 101) × EachIndex inputs.drifts (λ c. slice_index inputs.drifts c ≡ c * 13 % 101) };
+
+    // Times that step up and down along the row, drifts and phases that step up within a range, and delays
+    // that differ, with the arrival where the sender is faulty.
+    fn from(row: FaultyRow) -> Inputs {
+        Inputs {
+            times: array::from_fn(|c| 1_000_000 + c as u64 * 37 % 101),
+            marks: array::from_fn(|byte| marks(row.column, byte as u64)),
+            drifts: array::from_fn(|c| (c as u64 * 13 % 101) as u32),
+            phases: phases(row.step % 1_000_000),
+            links: links(row.width.min(256), row.column, row.arrival),
         }
-    } else {
-        all[3] = at_3;
     }
-    all
 }
 
-// The faulty tile's mark, or the first byte.
-pub fn marks(kind: u8, column: u64, first: u64) -> [u8; 1024]
-    ensures { 1024 ≡ length result }
-{
-    let mut all = [0u8; 1024];
-    let bit: u8 = 1;
-    if kind == b'f' {
-        all[(column % 256 / 8) as usize] = bit << (column % 8);
-    } else {
-        all[0] = (first % 256) as u8;
+impl From<Call> for Inputs {
+    ghost from_gives = { λ call inputs. (slice_index inputs.times 3 ≡ call.time_3) × (slice_index inputs.marks 0 ≡ call.marks_0) × (slice_index inputs.drifts 5 ≡ call.drift_5) × (slice_index inputs.phases 5 ≡ call.phase_5) × (slice_index inputs.links 0 ≡ call.link_0) × (slice_index inputs.links 19 ≡ call.link_19) };
+
+    fn from(call: Call) -> Inputs {
+        let mut inputs = Inputs {
+            times: [call.time; 1024],
+            marks: [0; 1024],
+            drifts: [0; 1024],
+            phases: [0; 1024],
+            links: [1000; 1024],
+        };
+        inputs.times[3] = call.time_3;
+        inputs.marks[0] = call.marks_0;
+        inputs.drifts[5] = call.drift_5;
+        inputs.phases[5] = call.phase_5;
+        inputs.links[0] = call.link_0;
+        inputs.links[19] = call.link_19;
+        inputs
     }
-    all
 }
 
-// Values that step along the row within a range, or none but at column 5: the drifts, and the phases.
-pub fn stepping(kind: u8, step: u64, range: u64, at_5: u64) -> [u32; 1024]
-    requires { (step < 2 ^ 32) × (0 < range) × (range < 2 ^ 32) }
-    ensures { 1024 ≡ length result }
+// A byte of the marks of a row in which one column is marked.
+fn marks(column: u64, byte: u64) -> u8 {
+    if column / 8 == byte {
+        1 << (column % 8)
+    } else {
+        0
+    }
+}
+
+fn phases(step: u64) -> [u32; 1024]
+    requires { step < 1000000 }
 {
-    let mut all = [0u32; 1024];
-    if kind == b'f' {
-        let mut c: u64 = 0;
-        while c < 256 {
-            all[c as usize] = (c * step % range) as u32;
-            c += 1;
+    array::from_fn(|c| (c as u64 * step % 1_000_000) as u32)
+}
+
+fn links(width: u64, column: u64, arrival: u64) -> [u64; 1024]
+    requires { width ≤ 256 }
+{
+    array::from_fn(|at| {
+        if sender(width, at as u64) == column.saturating_add(3) {
+            arrival
+        } else {
+            990 + at as u64 % 11 * 7 % 11
         }
-    } else {
-        all[5] = (at_5 % 4_294_967_296) as u32;
-    }
-    all
-}
-
-// The link values, tile after tile: those of a faulty tile's row, or 1000 but at two places.
-pub fn links(kind: u8, n: Numbers) -> [u64; 1024]
-    ensures { 1024 ≡ length result }
-{
-    if kind == b'f' {
-        return connected(n.0 % 257, n.1 % 256 + 3, n.2);
-    }
-    let mut all = [1000u64; 1024];
-    all[0] = n.12;
-    all[19] = n.13;
-    all
-}
-
-// Delays that differ, and the arrival where the sender is faulty.
-fn connected(width: u64, faulty: u64, arrival: u64) -> [u64; 1024]
-    requires { width < 257 }
-    ensures { 1024 ≡ length result }
-{
-    let mut all = [0u64; 1024];
-    let mut at: u64 = 0;
-    while at < 3 * width + 2 {
-        all[at as usize] = link(sender(width, at) == faulty, arrival, at);
-        at += 1;
-    }
-    all
-}
-
-fn link(faulty: bool, arrival: u64, at: u64) -> u64 {
-    if faulty {
-        arrival
-    } else {
-        990 + at % 11 * 7 % 11
-    }
+    })
 }
 
 // Three more than the column of the tile that a link value is of. The first two columns and the last two
 // hear the three tiles at their end, the third from an end the four there, and a column between them
 // its neighbours and itself.
 fn sender(width: u64, at: u64) -> u64
-    requires { (width < 257) × (at < 770) }
+    requires { (width ≤ 256) × (at < 1024) }
 {
     if at < 6 {
         at % 3 + 3

@@ -1,7 +1,6 @@
 -- The tile cases that have a star, the corrections next to zero, the ties of letters and silence, all with h 12; then clocks, the
 -- limits of stamps and pulses. Each statement is proved in proofs/Cases.antt, under its name in small letters. Assumes nothing.
-use Rattle.std.specs.Prelude.{◌≡◌, List, [], ◌∷◌, ℕ, ◌+◌, ◌-◌, ◌^◌, ℤ, pos, negsuc}
-use Rattle.std.proofs.Math.Option.{Option, none, some}
+use Rattle.std.specs.Prelude.{◌≡◌, List, [], ◌∷◌, ℕ, ◌+◌, ◌-◌, ◌^◌, ℤ, pos, negsuc, Option, Some, None}
 use Rattle.settings.specs.Settings.{settings, step}
 use Rattle.rule.specs.Clock.{million, phase_most, reads, first_tick}
 use Rattle.rule.specs.Stamp.{Stamp, heard, silent, earliest, latest, latest_stamp, silence, stamp_of, code_of}
@@ -31,55 +30,55 @@ stamps a b = heard a ∷ heard b ∷ []
 -- §14.1 the starred cases, each with its P and, where one is given, its correction
 unfoldable pub starred : List Case
 starred =
-    case 0 (stamps 100 100) (heard 100) 100 Kept none
-    ∷ case 0 (stamps 100 100) (heard 136) 112 Middle none
-    ∷ case 0 (stamps 100 100) (heard 137) 113 Back none
-    ∷ case 0 (stamps 100 100) (heard 200) 136 Late (some (pos 64))
-    ∷ case 0 (stamps 100 100) (heard 64) 64 Kept none
-    ∷ case 0 (stamps 100 100) (heard 63) 64 Early (some (negsuc 0))
-    ∷ case 0 (stamps 100 300) (heard 220) 208 Middle none
-    ∷ case 0 (stamps 0 100) (heard 110) 86 Back none
-    ∷ case 0 (stamps 100 130) silent 166 Late none
-    ∷ case 0 (heard 100 ∷ silent ∷ []) (heard 90) 90 Kept none
-    ∷ case 0 (heard 100 ∷ silent ∷ []) (heard 50) 64 Early none
-    ∷ case 10000 (stamps 100 100) (heard 137) 112 Middle none
+    case 0 (stamps 100 100) (heard 100) 100 Kept None
+    ∷ case 0 (stamps 100 100) (heard 136) 112 Middle None
+    ∷ case 0 (stamps 100 100) (heard 137) 113 Back None
+    ∷ case 0 (stamps 100 100) (heard 200) 136 Late (Some (pos 64))
+    ∷ case 0 (stamps 100 100) (heard 64) 64 Kept None
+    ∷ case 0 (stamps 100 100) (heard 63) 64 Early (Some (negsuc 0))
+    ∷ case 0 (stamps 100 300) (heard 220) 208 Middle None
+    ∷ case 0 (stamps 0 100) (heard 110) 86 Back None
+    ∷ case 0 (stamps 100 130) silent 166 Late None
+    ∷ case 0 (heard 100 ∷ silent ∷ []) (heard 90) 90 Kept None
+    ∷ case 0 (heard 100 ∷ silent ∷ []) (heard 50) 64 Early None
+    ∷ case 10000 (stamps 100 100) (heard 137) 112 Middle None
     ∷ []
 
 -- §4.3 a correction of -1, of 0 and of 1
 unfoldable pub around_zero : List Case
 around_zero =
-    case 0 (stamps 100 100) (heard 63) 64 Early (some (negsuc 0))
-    ∷ case 0 (stamps 100 100) (heard 64) 64 Kept (some (pos 0))
-    ∷ case 0 (stamps 100 100) (heard 113) 112 Middle (some (pos 1))
+    case 0 (stamps 100 100) (heard 63) 64 Early (Some (negsuc 0))
+    ∷ case 0 (stamps 100 100) (heard 64) 64 Kept (Some (pos 0))
+    ∷ case 0 (stamps 100 100) (heard 113) 112 Middle (Some (pos 1))
     ∷ []
 
 -- §5.3 a late own beside a silent neighbour is not corrected, and an early one waits for the earliest of the other two; §5.2 beside a
 -- silent own the latest of three decides
 unfoldable pub with_silence : List Case
 with_silence =
-    case 0 (heard 100 ∷ silent ∷ []) (heard 200) 200 Kept (some (pos 0))
-    ∷ case 0 (heard 130 ∷ silent ∷ heard 100 ∷ []) (heard 50) 64 Early (some (negsuc 13))
-    ∷ case 0 (heard 130 ∷ heard 100 ∷ heard 120 ∷ []) silent 166 Late none
+    case 0 (heard 100 ∷ silent ∷ []) (heard 200) 200 Kept (Some (pos 0))
+    ∷ case 0 (heard 130 ∷ silent ∷ heard 100 ∷ []) (heard 50) 64 Early (Some (negsuc 13))
+    ∷ case 0 (heard 130 ∷ heard 100 ∷ heard 120 ∷ []) silent 166 Late None
     ∷ []
 
 -- §E3.1 each tie and what lies a tick past it, with neighbours at 100, where D is own - 112, J 24 and max + 3h 136: D = 0, where P is own too; D = J;
 -- own - J = max + 3h; and P = own below, at min - 3h
 unfoldable pub at_ties : List Case
 at_ties =
-    case 0 (stamps 100 100) (heard 111) 111 Kept (some (pos 0))
-    ∷ case 0 (stamps 100 100) (heard 112) 112 Middle (some (pos 0))
-    ∷ case 0 (stamps 100 100) (heard 136) 112 Middle (some (pos 24))
-    ∷ case 0 (stamps 100 100) (heard 137) 113 Back (some (pos 24))
-    ∷ case 0 (stamps 100 100) (heard 160) 136 Back (some (pos 24))
-    ∷ case 0 (stamps 100 100) (heard 161) 136 Late (some (pos 25))
-    ∷ case 0 (stamps 100 100) (heard 64) 64 Kept (some (pos 0))
-    ∷ case 0 (stamps 100 100) (heard 63) 64 Early (some (negsuc 0))
+    case 0 (stamps 100 100) (heard 111) 111 Kept (Some (pos 0))
+    ∷ case 0 (stamps 100 100) (heard 112) 112 Middle (Some (pos 0))
+    ∷ case 0 (stamps 100 100) (heard 136) 112 Middle (Some (pos 24))
+    ∷ case 0 (stamps 100 100) (heard 137) 113 Back (Some (pos 24))
+    ∷ case 0 (stamps 100 100) (heard 160) 136 Back (Some (pos 24))
+    ∷ case 0 (stamps 100 100) (heard 161) 136 Late (Some (pos 25))
+    ∷ case 0 (stamps 100 100) (heard 64) 64 Kept (Some (pos 0))
+    ∷ case 0 (stamps 100 100) (heard 63) 64 Early (Some (negsuc 0))
     ∷ []
 
 -- §14.1 c is the correction that a case gives, if it gives one
 unfoldable pub Given : Option ℤ → Option ℤ → Type 0
-Given none c = Unit {0}
-Given (some z) c = c ≡ some z
+Given None c = Unit {0}
+Given (Some z) c = c ≡ Some z
 
 -- §14.1 the rule, with the step of the case's r, gives its P, its letter, and its correction where there is one
 unfoldable pub Meets : Case → Type 0
@@ -108,7 +107,7 @@ TiesMet = EachMeets at_ties
 
 -- §5.2 each case with silence is met, and a silent own has no correction
 unfoldable pub SilenceMet : Type 0
-SilenceMet = EachMeets with_silence × (correction 12 24 silent (heard 100) (heard 130) ≡ none)
+SilenceMet = EachMeets with_silence × (correction 12 24 silent (heard 100) (heard 130) ≡ None)
 
 -- §14.2 a clock of drift 10,000 and phase 0 reads 1111 at tick 1100 and just misses 1110 a tick before; it reads 1511 first at 1497,
 -- and less at 1496. At drift 1 a tick in a million is gained, at drift 0 none. So it was before there were phases (§E4.6).

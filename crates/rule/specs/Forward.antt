@@ -1,8 +1,7 @@
 -- The forwarding rule, as the requirements have it in their sections 4 and 5. Assumes nothing.
 --
 -- Throughout: unit h, step j (§2.4); own, min and max are o, l and m.
-use Rattle.std.specs.Prelude.{cond, ℕ, zero, suc, ◌-◌, ◌*◌, ℤ, pos, ◌+ℤ◌, ◌-ℤ◌}
-use Rattle.std.proofs.Math.Option.{Option, none, some}
+use Rattle.std.specs.Prelude.{cond, ℕ, zero, suc, ◌-◌, ◌*◌, ℤ, pos, ◌+ℤ◌, ◌-ℤ◌, Option, Some, None}
 use Rattle.std.specs.Int.Signed.{lt_z, le_z}
 use Rattle.rule.specs.Signed.{larger, smaller}
 use Rattle.rule.specs.Stamp.{Stamp, heard, silent}
@@ -39,5 +38,5 @@ P h j silent l silent = pos 0
 
 -- §4.3 own less P, which has a sign; none where own is silent (§5.2)
 unfoldable pub correction : (h j : ℕ) → (own least most : Stamp) → Option ℤ
-correction h j silent l m = none
-correction h j (heard o) l m = some (pos o -ℤ P h j (heard o) l m)
+correction h j silent l m = None
+correction h j (heard o) l m = Some (pos o -ℤ P h j (heard o) l m)

@@ -3,7 +3,6 @@ ghost use Rattle.std.specs.Prelude.{◌≡◌, ◌<◌, ◌^◌};
 ghost use Rattle.rule.specs.Clock.{Admitted, reads, first_tick};
 
 use settings::MILLION;
-use settings::rounding::up;
 
 #[derive(Clone, Copy)]
 pub struct Clock {
@@ -30,6 +29,6 @@ impl Clock {
         requires { Admitted self × (0 < v) × (v < 2 ^ 43) }
         ensures { result ≡ first_tick self.drift self.phase v }
     {
-        up(v * MILLION - self.phase, MILLION + self.drift)
+        (v * MILLION - self.phase).div_ceil(MILLION + self.drift)
     }
 }

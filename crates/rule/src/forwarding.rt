@@ -6,11 +6,10 @@ ghost use Rattle.rule.specs.Closed.{middle, closed_P, Forwardable};
 ghost use Rattle.rule.specs.declared.letter.Letter.TheVariants.{Kept, Early, Back, Late};
 
 use crate::letter::Letter;
-use settings::rounding::less;
 
 // Later than every stamp, so that the smaller and the larger of two stamps are the earlier and the
-// later one.
-pub const SILENT: u64 = 18_446_744_073_709_551_615;
+// later one. It is a number and no Option since a link's word is it (C), and a pulse compares stamps as they stand.
+pub const SILENT: u64 = u64::MAX;
 
 // The latest stamp that an operation accepts, and the latest time of a seam.
 pub const LATEST: u64 = 2_199_023_255_551;
@@ -24,9 +23,9 @@ fn middle(unit: u64, least: u64, most: u64) -> u64
     let half = 8 * unit;
     let turn = 16 * unit;
     if gap < turn {
-        return least + less(gap, half);
+        return least + gap.saturating_sub(half);
     }
-    least + half * (gap / turn) + less(gap % turn, half)
+    least + half * (gap / turn) + (gap % turn).saturating_sub(half)
 }
 
 // P, the stamp that a tile adopts, and what fixed it.
@@ -50,7 +49,7 @@ pub fn adopted(unit: u64, step: u64, own: u64, least: u64, most: u64) -> Fixed
         };
     }
     // What own waits for, where it is early.
-    let early = less(least, 3 * unit);
+    let early = least.saturating_sub(3 * unit);
     if most == SILENT {
         return kept_or_early(own, early);
     }
@@ -75,14 +74,15 @@ fn kept_or_early(own: u64, early: u64) -> Fixed
     ensures letter { result.letter ≡ cond (ltb own early) Early Kept }
 {
     if own < early {
-        return Fixed {
+        Fixed {
             p: early,
             letter: Letter::Early,
-        };
-    }
-    Fixed {
-        p: own,
-        letter: Letter::Kept,
+        }
+    } else {
+        Fixed {
+            p: own,
+            letter: Letter::Kept,
+        }
     }
 }
 
@@ -92,13 +92,14 @@ fn back_or_late(back: u64, late: u64) -> Fixed
     ensures letter { result.letter ≡ cond (leb back late) Back Late }
 {
     if back <= late {
-        return Fixed {
+        Fixed {
             p: back,
             letter: Letter::Back,
-        };
-    }
-    Fixed {
-        p: late,
-        letter: Letter::Late,
+        }
+    } else {
+        Fixed {
+            p: late,
+            letter: Letter::Late,
+        }
     }
 }

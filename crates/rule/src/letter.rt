@@ -1,19 +1,19 @@
-// Which part of the rule fixed a pulse, as a letter.
+// Which part of the rule fixed a pulse, and its letter.
 ghost use Rattle.std.specs.Prelude.{◌≡◌};
 ghost use Rattle.rule.specs.Letter.{byte_of};
 
 #[derive(Clone, Copy)]
 pub enum Letter {
-    // k: P is own's stamp.
-    Kept,
-    // e: own is early, and waits for the earliest neighbour less 3h.
-    Early,
-    // m: the middle of the neighbours decides.
-    Middle,
-    // b: own is late, and is put back by J.
-    Back,
-    // l: own is later than that, or silent: the latest neighbour and 3h.
-    Late,
+    // P is own's stamp.
+    Kept = b'k' as isize,
+    // Own is early, and waits for the earliest neighbour less 3h.
+    Early = b'e' as isize,
+    // The middle of the neighbours decides.
+    Middle = b'm' as isize,
+    // Own is late, and is put back by J.
+    Back = b'b' as isize,
+    // Own is later than that, or silent: the latest neighbour and 3h.
+    Late = b'l' as isize,
 }
 
 impl Letter {
@@ -21,12 +21,6 @@ impl Letter {
     pub fn byte(self) -> u8
         ensures { result ≡ byte_of self }
     {
-        match self {
-            Letter::Kept => b'k',
-            Letter::Early => b'e',
-            Letter::Middle => b'm',
-            Letter::Back => b'b',
-            Letter::Late => b'l',
-        }
+        self as u8
     }
 }

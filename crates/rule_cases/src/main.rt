@@ -3,160 +3,137 @@
 // the file `stdin` lists them. Each line says what is asked for and whether the operation answered that.
 #![tactic(auto)]
 
-use cases::{Numbers, find};
+ghost use Rattle.std.specs.Prelude.{◌<◌, ◌^◌, ◌↔◌, IsTrue, IfSome};
+ghost use Rattle.rule.specs.Clock.{Admitted};
+
+use cases::Case;
 use rule::clock::Clock;
-use settings::{Checked, Settings};
+use settings::Settings;
+use settings::refusal::Refusal;
 use std::io;
-use std::io::{Read, Write};
 use tile::{Forwarded, Stamps};
 
 fn main(rt: HostRuntime) -> io::Result<()> {
-    let mut text = Vec::new(rt.alloc());
-    rt.reader().read_to_end(&mut text)?;
-    run(&mut io::writer(&rt), &text)
-}
-
-fn run(out: &mut impl Write, text: &[u8]) -> io::Result<()> {
-    let mut at = 0;
-    while at < text.len() {
-        let end = find(text, at, b'\n');
-        case(out, &text[at..end])?;
-        at = end + 1;
-    }
-    Ok(())
-}
-
-fn case(out: &mut impl Write, line: &[u8]) -> io::Result<()> {
-    let case = cases::read(line);
-    if case.kind != b'#' {
-        return cases::report(out, line, right(case.kind, case.count, case.numbers));
-    }
-    Ok(())
+    cases::run(&rt, |out, case| case.report(out, right(case)))
 }
 
 // Whether the operation answers what a case says.
-fn right(kind: u8, count: usize, n: Numbers) -> bool {
-    match kind {
-        b's' => count == 8 && number(settings(n)) == n.7,
-        b'k' | b't' => count == 4 && clock_right(kind, clock(n), n.2, n.3),
-        _ => count == 19 && tile_right(kind, n),
-    }
-}
-
-// The settings of a case.
-fn settings(n: Numbers) -> Settings {
-    Settings {
-        width: n.0,
-        rows: n.1,
-        delay: n.2,
-        uncertainty: n.3,
-        hold: n.4,
-        drift: n.5,
-        unit: n.6,
-    }
-}
-
-// The number of what `Settings::new` answers, 0 where it hands the record out.
-fn number(s: Settings) -> u64 {
-    match Settings::new(
-        s.width,
-        s.rows,
-        s.delay,
-        s.uncertainty,
-        s.hold,
-        s.drift,
-        s.unit,
-    ) {
-        Checked::Passed(_) => 0,
-        Checked::Refused(given) => given as u64,
-    }
-}
-
-// The clock of a case.
-fn clock(n: Numbers) -> Clock {
-    Clock {
-        drift: n.0,
-        phase: n.1,
-    }
-}
-
-// Whether a clock reads what a case says, or first reads it when the case says.
-fn clock_right(kind: u8, clock: Clock, given: u64, expected: u64) -> bool {
-    if 10_000 < clock.drift {
-        return false;
-    }
-    if Clock::PHASE_MOST < clock.phase {
-        return false;
-    }
-    if 8_796_093_022_207 < given {
-        return false;
-    }
-    if kind == b'k' {
-        return clock.reading(given) == expected;
-    }
-    0 < given && clock.first_tick(given) == expected
-}
-
-fn tile_right(kind: u8, n: Numbers) -> bool {
-    let given = told(tile::forward(settings(n), stamps(n)));
-    n.7 < 4_294_967_296 && same(given, kind, signed(n.16), signed(n.17), n.18)
-}
-
-fn same(given: Answer, kind: u8, first: i64, second: i64, letter: u64) -> bool {
-    kind == given.kind
-        && first == given.first
-        && second == given.second
-        && letter == given.letter as u64
-}
-
-fn stamps(n: Numbers) -> Stamps {
-    Stamps {
-        at: [signed(n.8), signed(n.9), signed(n.10), signed(n.11)],
-        silent: [n.12 != 0, n.13 != 0, n.14 != 0, n.15 != 0],
-        count: (n.7 % 4_294_967_296) as u32,
-    }
-}
-
-// The number of 64 bits.
-fn signed(bits: u64) -> i64 {
-    if bits < 9_223_372_036_854_775_808 {
-        return bits as i64;
-    }
-    !((18_446_744_073_709_551_615 - bits) as i64)
-}
-
-// What a tile forwards, as a case gives it.
-#[derive(Clone, Copy)]
-struct Answer {
-    kind: u8,
-    first: i64,
-    second: i64,
-    letter: u8,
-}
-
-fn told(forwarded: Forwarded) -> Answer {
-    match forwarded {
-        Forwarded::Corrected {
-            p,
-            correction,
-            letter,
-        } => Answer {
-            kind: b'c',
-            first: p,
-            second: correction,
-            letter: letter.byte(),
+fn right(case: &Case<'_>) -> bool {
+    match (case.kind, case.numbers) {
+        (b's', [w, rows, d, u, a, r, h, number]) => {
+            number_of(Settings::new(*w, *rows, *d, *u, *a, *r, *h)) == *number
+        }
+        (b'k', [drift, phase, tick, reading]) => match clock(*drift, *phase) {
+            Some(clock) => in_range(*tick) && clock.reading(*tick) == *reading,
+            None => false,
         },
-        Forwarded::Uncorrected { p, letter } => Answer {
-            kind: b'u',
-            first: p,
-            second: 0,
-            letter: letter.byte(),
+        (b't', [drift, phase, reading, tick]) => match clock(*drift, *phase) {
+            Some(clock) => {
+                0 < *reading && in_range(*reading) && clock.first_tick(*reading) == *tick
+            }
+            None => false,
         },
-        Forwarded::Refused(number) => Answer {
-            kind: b'r',
-            first: number as i64,
-            second: 0,
-            letter: 0,
-        },
+        (b'c' | b'u' | b'r', numbers) => tile_right(case.kind, numbers),
+        _ => false,
+    }
+}
+
+// 0 where settings are handed out.
+fn number_of(checked: Result<Settings, Refusal>) -> u64 {
+    match checked {
+        Ok(_) => 0,
+        Err(refusal) => u64::from(refusal.number()),
+    }
+}
+
+// A clock within its limits.
+fn clock(drift: u64, phase: u64) -> Option<Clock>
+    ensures { IfSome result Admitted }
+{
+    if 10_000 < drift || Clock::PHASE_MOST < phase {
+        return None;
+    }
+    Some(Clock { drift, phase })
+}
+
+// Whether a clock is asked of a tick or a reading.
+fn in_range(value: u64) -> bool
+    ensures { IsTrue result ↔ (value < 2 ^ 43) }
+{
+    value < 8_796_093_022_208
+}
+
+fn tile_right(kind: u8, numbers: &[u64]) -> bool {
+    let Some((settings, rest)) = numbers.split_first_chunk::<7>() else {
+        return false;
+    };
+    let [w, rows, d, u, a, r, h] = *settings;
+    let settings = Settings {
+        width: w,
+        rows,
+        delay: d,
+        uncertainty: u,
+        hold: a,
+        drift: r,
+        unit: h,
+    };
+    let [
+        count,
+        own,
+        x,
+        y,
+        z,
+        own_silent,
+        x_silent,
+        y_silent,
+        z_silent,
+        first,
+        second,
+        letter,
+    ] = rest
+    else {
+        return false;
+    };
+    let Ok(count) = u32::try_from(*count) else {
+        return false;
+    };
+    let stamps = Stamps {
+        at: [
+            own.cast_signed(),
+            x.cast_signed(),
+            y.cast_signed(),
+            z.cast_signed(),
+        ],
+        silent: [
+            *own_silent != 0,
+            *x_silent != 0,
+            *y_silent != 0,
+            *z_silent != 0,
+        ],
+        count,
+    };
+    let given = tile::forward(settings, stamps);
+    same(
+        kind,
+        first.cast_signed(),
+        second.cast_signed(),
+        *letter,
+        given,
+    )
+}
+
+// Whether a tile forwards what a case gives: c, P, the correction and the letter; u, P, 0 and the letter; r, the number, 0 and 0.
+fn same(kind: u8, first: i64, second: i64, letter: u64, given: Result<Forwarded, Refusal>) -> bool {
+    match given {
+        Ok(told) => {
+            let right = match told.correction {
+                Some(correction) => kind == b'c' && correction == second,
+                None => kind == b'u' && second == 0,
+            };
+            right && told.p == first && u64::from(told.letter.byte()) == letter
+        }
+        Err(refusal) => {
+            kind == b'r' && i64::from(refusal.number()) == first && second == 0 && letter == 0
+        }
     }
 }

@@ -7,9 +7,9 @@ use lib.Dec.{eqb, lit<, lit≤}
 use lib.ListN.{get_or}
 use native.Mathlib.Omega.{arith}
 use borrow.Author.Tests.{eqb-true, not-false}
-use Rattle.settings.specs.Refusal.{first, outside, any_below}
+use Rattle.settings.specs.Refusal.{first, or_else, outside, any_below}
 use Rattle.settings.specs.Rounding.{up}
-use Rattle.settings.specs.Settings.{settings, settings_refusal, settings_tests, drift_cost, step, step_of}
+use Rattle.settings.specs.Settings.{settings, settings_cause, settings_tests, drift_cost, step, step_of}
 use Rattle.rule.specs.Clock.{reads, first_tick}
 use Rattle.rule.specs.Signed.{larger, smaller, natural}
 use Rattle.rule.specs.Stamp.{earlier, later, earliest, latest, stamp_of}
@@ -20,7 +20,7 @@ use Rattle.admission.specs.Call.{call}
 use Rattle.columns.specs.Marks.{marked, mark_bytes, faulty_among}
 use Rattle.pulse.specs.Pulse.{arrives, arrival, read_at, stamp, pulse}
 use Rattle.row.specs.Row.{row_of}
-use Rattle.admission.specs.Refusal.{lengths_are, lengths_right, stray_mark, late_time, crowded, over, row_tests, row_refusal}
+use Rattle.admission.specs.Refusal.{lengths_are, lengths_right, stray_mark, late_time, crowded, over, row_tests, row_cause, row_refusal}
 use Rattle.links.specs.Links.{bad_value, bad_link, bad_links}
 use Rattle.runs.specs.Run.{accepted_calls, rows, call_at, row_at}
 use Rattle.runs.specs.Reach.{Alike, apart, widest, gap_below, widest_gap, reach_ticks, OneFault}
@@ -29,7 +29,7 @@ use Rattle.runs.specs.Witness.{wall, row_0, phases, sound, broken, stray, first_
 
 -- the rows, with phases and without, and the accepted calls
 computed : RowsMet × PhasesCount × (accepted_calls wall first_run row_0 ≡ sound ∷ sound ∷ []) × (accepted_calls wall second_run row_0 ≡ sound ∷ broken ∷ [])
-unfolding RowsMet PhasesCount without_phases first_rows second_rows first_run second_run rows accepted_calls wall row_0 phases sound broken stray settings call row_refusal row_tests first outside up settings_refusal settings_tests drift_cost any_below any_of mark_bytes lengths_are lengths_right stray_mark late_time faulty_among crowded over bad_value bad_link bad_links marked link link_place links_before place_in predecessors is_predecessor are_neighbours columns_from row_of table_from pulse tile_pulse tile_P P heard_correction D least_to larger_at larger smaller natural stamp arrival arrives read_at reads first_tick stamp_of earliest latest earlier later step_of step neighbours
+unfolding RowsMet PhasesCount without_phases first_rows second_rows first_run second_run rows accepted_calls wall row_0 phases sound broken stray settings call row_refusal row_cause row_tests first or_else outside up settings_cause settings_tests drift_cost any_below any_of mark_bytes lengths_are lengths_right stray_mark late_time faulty_among crowded over bad_value bad_link bad_links marked link link_place links_before place_in predecessors is_predecessor are_neighbours columns_from row_of table_from pulse tile_pulse tile_P P heard_correction D least_to larger_at larger smaller natural stamp arrival arrives read_at reads first_tick stamp_of earliest latest earlier later step_of step neighbours
 computed = ((refl, refl), refl, refl, refl)
 
 pub phases_count : PhasesCount

@@ -14,10 +14,11 @@ use lib.Ieee.Exact.{HasValue, round_exact}
 use lib.Ieee.Fits.{down_pos, round-fits}
 use lib.Ieee.Scale.{round_same}
 use borrow.Author.Tests.{lt-ltb, le-ltb, ltb-false}
+use Rattle.std.specs.Prelude.{Ok, Err}
+use Rattle.settings.specs.declared.refusal.Refusal.TheVariants.{LateSide}
 use Rattle.settings.proofs.Laws.Cases.{by_order}
 use Rattle.rule.proofs.Laws.Signed.{minus, sub_pos, sub_neg}
 use Rattle.seam.specs.Seam.{latest, half, halves, late, joined, seam_of}
-use Rattle.seam.specs.declared.Seam.TheVariants.{Refused}
 
 -- one half, as the code's literal
 pub one_half : of_bits binary64 0x3fe0_0000_0000_0000 ≡ fin false 1 (negsuc 0)
@@ -106,14 +107,14 @@ faulty_late t = refl
 
 -- the answer by cases
 module _ (l : ℕ) (lf : Bool) (r : ℕ) (rf : Bool) where
-  pub refused_left : late l lf ≡ true → seam_of l lf r rf ≡ Refused 31
+  pub refused_left : late l lf ≡ true → seam_of l lf r rf ≡ Err LateSide
   unfolding seam_of
   refused_left e = rw e
 
-  pub refused_right : late r rf ≡ true → seam_of l lf r rf ≡ Refused 31
+  pub refused_right : late r rf ≡ true → seam_of l lf r rf ≡ Err LateSide
   unfolding seam_of
   refused_right e = rw (e, or-true (late l lf))
 
-  pub accepted : late l lf ≡ false → late r rf ≡ false → seam_of l lf r rf ≡ joined lf rf (halves l r)
+  pub accepted : late l lf ≡ false → late r rf ≡ false → seam_of l lf r rf ≡ Ok (joined lf rf (halves l r))
   unfolding seam_of
   accepted d e = rw (d, e)

@@ -9,7 +9,8 @@ use lib.IntN.{pos, ◌-ℤ◌}
 use lib.Ieee.{binary64, round, to_bits}
 use Rattle.settings.proofs.Laws.Cases.{by_order}
 use Rattle.rule.proofs.Laws.Signed.{minus, minus_fits, sub_pos, sub_≤}
-use Rattle.seam.specs.Seam.{latest, half, halves, late, joined, seam_of, number_of, halves_of, side_of}
+use Rattle.settings.specs.Refusal.{number_in}
+use Rattle.seam.specs.Seam.{latest, half, halves, late, joined, seam_of, halves_of, side_of}
 use Rattle.seam.specs.Promises.{HalvesExact, ZeroGapPlus, Bits, PrintedBits, OddBits, GapRange, GapEnds, LatestTime, Over, SeamAnswered, FaultyUnread}
 use Rattle.seam.specs.declared.Halves.{Halves}
 use Rattle.seam.proofs.Laws.{half_exact, half_sub, half_fits, over_late, within_late, faulty_late, refused_left, refused_right, accepted}
@@ -68,16 +69,8 @@ unfolding Over
 not_late_of t true n = faulty_late t
 not_late_of t false n = by_order t latest (λ i. within_late t i) (λ i. absurd (n (refl, i)))
 
-joined_number : (lf rf : Bool) (h : Halves) → number_of (joined lf rf h) ≡ 0
-unfolding number_of joined
-joined_number true true h = refl
-joined_number true false h = refl
-joined_number false true h = refl
-joined_number false false h = refl
-
 module _ (l : ℕ) (lf : Bool) (r : ℕ) (rf : Bool) where
-  over : Over l lf ⊎ Over r rf → number_of (seam_of l lf r rf) ≡ 31
-  unfolding number_of
+  over : Over l lf ⊎ Over r rf → number_in (seam_of l lf r rf) ≡ 31
   over (inl p) = rw (refused_left l lf r rf (late_of l lf p))
   over (inr p) = rw (refused_right l lf r rf (late_of r rf p))
 
@@ -86,7 +79,7 @@ unfolding SeamAnswered joined halves_of side_of
 seam_answered l lf r rf =
     record {
       over = over l lf r rf;
-      not_over = λ m n. rw (accepted l lf r rf (not_late_of l lf m) (not_late_of r rf n)) (joined_number lf rf (halves l r));
+      not_over = λ m n. rw (accepted l lf r rf (not_late_of l lf m) (not_late_of r rf n));
       closed = λ p q i k. rw (p, q, accepted l false r false (within_late l i) (within_late r k)) (refl, refl);
       open_left = λ p q k. rw (p, q, accepted l true r false (faulty_late l) (within_late r k)) (refl, refl);
       open_right = λ p q i. rw (p, q, accepted l false r true (within_late l i) (faulty_late r)) (refl, refl);

@@ -2,7 +2,8 @@
 -- statement is proved in proofs/Cases.antt, under its name in small letters. Assumes nothing.
 use Rattle.std.specs.Prelude.{◌≡◌, Bool, true, false, ℕ}
 use Rattle.std.proofs.Math.Option.{Option, none, some}
-use Rattle.seam.specs.Seam.{halves, seam_of, number_of, halves_of, side_of}
+use Rattle.settings.specs.Refusal.{number_in}
+use Rattle.seam.specs.Seam.{halves, seam_of, halves_of, side_of}
 use Rattle.seam.specs.declared.Halves.{Halves}
 use Rattle.seam.specs.declared.Side.{Side}
 use Rattle.seam.specs.declared.Side.TheVariants.{Left, Right, Both}
@@ -10,7 +11,7 @@ use Rattle.seam.specs.declared.Side.TheVariants.{Left, Right, Both}
 -- §13.3 a seam's answer by its number, halves and side
 unfoldable pub SeamIs : (left : ℕ) (left_faulty : Bool) (right : ℕ) (right_faulty : Bool) → (number : ℕ) → Option Halves → Option Side → Type 0
 SeamIs l lf r rf n h s =
-    (number_of (seam_of l lf r rf) ≡ n) × (halves_of (seam_of l lf r rf) ≡ h) × (side_of (seam_of l lf r rf) ≡ s)
+    (number_in (seam_of l lf r rf) ≡ n) × (halves_of (seam_of l lf r rf) ≡ h) × (side_of (seam_of l lf r rf) ≡ s)
 
 -- §8.2 neither is faulty; the left alone; the right alone; both
 unfoldable pub OpenCases : Type 0

@@ -1,13 +1,15 @@
 -- What is promised of a seam. Each statement is proved in proofs/Promises.antt, under its name in small letters.
 -- Assumes nothing.
-use Rattle.std.specs.Prelude.{◌≡◌, Bool, true, false, ◌⊎◌, ℕ, ◌+◌, ◌-◌, ◌^◌, ◌≤◌, ◌<◌, T, ltb, pos, neg_ℤ, ◌-ℤ◌, ◌≤ℤ◌}
+use Rattle.std.specs.Prelude.{◌≡◌, Bool, true, false, ◌⊎◌, ℕ, ◌+◌, ◌-◌, ◌^◌, ◌≤◌, ◌<◌, T, ltb, pos, neg_ℤ, ◌-ℤ◌, ◌≤ℤ◌, Result}
 use Rattle.std.proofs.Math.Option.{none, some}
 use Rattle.std.specs.Float.{binary64}
 use Rattle.std.specs.Float.Ieee.{fits, to_bits}
 use Rattle.std.specs.Float.Ieee.Exact.{HasValue}
 use Rattle.std.specs.Int.{w64}
 use Rattle.std.proofs.Common.{SFits}
-use Rattle.seam.specs.Seam.{latest, halves, seam_of, number_of, halves_of, side_of}
+use Rattle.settings.specs.Refusal.{number_in}
+use Rattle.settings.specs.declared.refusal.Refusal.{Refusal}
+use Rattle.seam.specs.Seam.{latest, halves, seam_of, halves_of, side_of}
 use Rattle.seam.specs.declared.Seam.{Seam}
 use Rattle.seam.specs.declared.Side.TheVariants.{Left, Right, Both}
 
@@ -62,9 +64,9 @@ unfoldable pub Over : (time : ℕ) (faulty : Bool) → Type 0
 Over t f = (f ≡ false) × (latest < t)
 
 -- §13.3 an answer's number, halves and side in each case of the two tiles
-pub record Answered (left : ℕ) (left_faulty : Bool) (right : ℕ) (right_faulty : Bool) (answer : Seam) : Type 0 where
-  pub over : Over left left_faulty ⊎ Over right right_faulty → number_of answer ≡ 31
-  pub not_over : (Over left left_faulty → ⊥) → (Over right right_faulty → ⊥) → number_of answer ≡ 0
+pub record Answered (left : ℕ) (left_faulty : Bool) (right : ℕ) (right_faulty : Bool) (answer : Result Seam Refusal) : Type 0 where
+  pub over : Over left left_faulty ⊎ Over right right_faulty → number_in answer ≡ 31
+  pub not_over : (Over left left_faulty → ⊥) → (Over right right_faulty → ⊥) → number_in answer ≡ 0
   pub closed : left_faulty ≡ false → right_faulty ≡ false → left ≤ latest → right ≤ latest →
       (halves_of answer ≡ some (halves left right)) × (side_of answer ≡ none)
   pub open_left : left_faulty ≡ true → right_faulty ≡ false → right ≤ latest →

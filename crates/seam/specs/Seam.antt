@@ -1,14 +1,16 @@
--- One seam: its midpoint and half gap, the number 31, and its answer. Assumes nothing.
-use Rattle.std.specs.Prelude.{Bool, true, false, cond, not, ◌&&◌, ◌||◌, ℕ, suc, ◌+◌, ltb, ℤ, pos, negsuc, ◌-ℤ◌, Float}
+-- One seam: its midpoint and half gap, the refusal 31, and its answer. Assumes nothing.
+use Rattle.std.specs.Prelude.{Bool, true, false, cond, not, ◌&&◌, ◌||◌, ℕ, suc, ◌+◌, ltb, ℤ, pos, negsuc, ◌-ℤ◌, Float, Result, Ok, Err}
 use Rattle.std.proofs.Math.Option.{Option, none, some}
 use Rattle.std.specs.Float.{binary64}
 use Rattle.std.specs.Float.Ieee.{round}
+use Rattle.settings.specs.declared.refusal.Refusal.{Refusal}
+use Rattle.settings.specs.declared.refusal.Refusal.TheVariants.{LateSide}
 use Rattle.rule.specs.Stamp.{latest_stamp}
 use Rattle.seam.specs.declared.Halves.{Halves}
 use Rattle.seam.specs.declared.Side.{Side}
 use Rattle.seam.specs.declared.Side.TheVariants.{Left, Right, Both}
 use Rattle.seam.specs.declared.Seam.{Seam}
-use Rattle.seam.specs.declared.Seam.TheVariants.{Closed, Open, Refused}
+use Rattle.seam.specs.declared.Seam.TheVariants.{Closed, Open}
 
 -- §8.4 the latest time of a correct tile is the latest stamp, 2^41 - 1
 abbrev pub latest : ℕ
@@ -35,23 +37,17 @@ joined false true h = Open Right
 joined true true h = Open Both
 
 -- §8.4 the answer for two tiles, each by its time and whether it is faulty: 31 where one is late, otherwise their seam
-unfoldable pub seam_of : (left : ℕ) (left_faulty : Bool) (right : ℕ) (right_faulty : Bool) → Seam
-seam_of l lf r rf = cond (late l lf || late r rf) (Refused 31) (joined lf rf (halves l r))
-
--- §13.3 the number that each case of the answer stands for, 0 for a seam
-unfoldable pub number_of : Seam → ℕ
-number_of (Closed h) = 0
-number_of (Open s) = 0
-number_of (Refused n) = n
+unfoldable pub seam_of : (left : ℕ) (left_faulty : Bool) (right : ℕ) (right_faulty : Bool) → Result Seam Refusal
+seam_of l lf r rf = cond (late l lf || late r rf) (Err LateSide) (Ok (joined lf rf (halves l r)))
 
 -- §13.3 the midpoint and half gap that a closed seam has
-unfoldable pub halves_of : Seam → Option Halves
-halves_of (Closed h) = some h
-halves_of (Open s) = none
-halves_of (Refused n) = none
+unfoldable pub halves_of : Result Seam Refusal → Option Halves
+halves_of (Ok (Closed h)) = some h
+halves_of (Ok (Open s)) = none
+halves_of (Err why) = none
 
 -- §13.3 the side that an open seam has
-unfoldable pub side_of : Seam → Option Side
-side_of (Closed h) = none
-side_of (Open s) = some s
-side_of (Refused n) = none
+unfoldable pub side_of : Result Seam Refusal → Option Side
+side_of (Ok (Closed h)) = none
+side_of (Ok (Open s)) = some s
+side_of (Err why) = none

@@ -5,6 +5,8 @@
 ghost use Rattle.std.specs.Prelude.{◌≡◌, ◌≤◌};
 ghost use Rattle.seam.specs.Seam.{latest, halves, late, seam_of};
 
+use settings::refusal::Refusal;
+
 // The midpoint and the half gap of a pair of pulse times.
 #[derive(Clone, Copy)]
 pub struct Halves {
@@ -13,7 +15,7 @@ pub struct Halves {
 }
 
 // Which tile is faulty.
-#[derive(Clone, Copy)]
+#[derive(Clone, Copy, Debug, PartialEq, Eq)]
 pub enum Side {
     Left,
     Right,
@@ -24,43 +26,32 @@ pub enum Side {
 pub enum Seam {
     Closed(Halves),
     Open(Side),
-    // 31.
-    Refused(u32),
 }
 
 // The latest time that is accepted of a correct tile.
 pub const LATEST: u64 = rule::forwarding::LATEST;
 
-pub fn join(left: u64, left_faulty: bool, right: u64, right_faulty: bool) -> Seam
+#[tactic(auto, unfolding(crate::specs::Seam::late, crate::specs::Seam::joined, crate::specs::Seam::seam_of))]
+pub fn join(left: u64, left_faulty: bool, right: u64, right_faulty: bool) -> Result<Seam, Refusal>
     ensures { result ≡ seam_of left left_faulty right right_faulty }
 {
-    if refused(left, left_faulty) {
-        return Seam::Refused(31);
+    if late(left, left_faulty) || late(right, right_faulty) {
+        return Err(Refusal::LateSide);
     }
-    if refused(right, right_faulty) {
-        return Seam::Refused(31);
-    }
-    if left_faulty {
-        if right_faulty {
-            return Seam::Open(Side::Both);
-        }
-        return Seam::Open(Side::Left);
-    }
-    if right_faulty {
-        return Seam::Open(Side::Right);
-    }
-    let halves = Halves::of(left, right);
-    Seam::Closed(halves)
+    Ok(match (left_faulty, right_faulty) {
+        (false, false) => Seam::Closed(Halves::of(left, right)),
+        (true, false) => Seam::Open(Side::Left),
+        (false, true) => Seam::Open(Side::Right),
+        (true, true) => Seam::Open(Side::Both),
+    })
 }
 
 // Whether a tile is correct and its time is over the latest.
-fn refused(time: u64, faulty: bool) -> bool
+#[tactic(auto, unfolding(crate::specs::Seam::late))]
+fn late(time: u64, faulty: bool) -> bool
     ensures { result ≡ late time faulty }
 {
-    if faulty {
-        return false;
-    }
-    LATEST < time
+    !faulty && LATEST < time
 }
 
 impl Halves {

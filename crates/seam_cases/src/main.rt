@@ -4,70 +4,32 @@
 // the operation answered that.
 #![tactic(auto)]
 
-use cases::{Numbers, find};
+use cases::Case;
 use seam::{Seam, Side};
 use std::io;
-use std::io::{Read, Write};
 
 fn main(rt: HostRuntime) -> io::Result<()> {
-    let mut text = Vec::new(rt.alloc());
-    rt.reader().read_to_end(&mut text)?;
-    run(&mut io::writer(&rt), &text)
-}
-
-fn run(out: &mut impl Write, text: &[u8]) -> io::Result<()> {
-    let mut at = 0;
-    while at < text.len() {
-        let end = find(text, at, b'\n');
-        case(out, &text[at..end])?;
-        at = end + 1;
-    }
-    Ok(())
-}
-
-fn case(out: &mut impl Write, line: &[u8]) -> io::Result<()> {
-    let case = cases::read(line);
-    if case.kind != b'#' {
-        return cases::report(out, line, right(case.kind, case.count, case.numbers));
-    }
-    Ok(())
+    cases::run(&rt, |out, case| case.report(out, right(case)))
 }
 
 // Whether the operation answers what a case says.
-fn right(kind: u8, count: usize, n: Numbers) -> bool {
-    let given = told(seam::join(n.0, n.1 != 0, n.2, n.3 != 0));
-    count == 6 && kind == given.kind && n.4 == given.first && n.5 == given.second
-}
-
-// A seam as a case gives it.
-#[derive(Clone, Copy)]
-struct Answer {
-    kind: u8,
-    first: u64,
-    second: u64,
-}
-
-fn told(seam: Seam) -> Answer {
-    match seam {
-        Seam::Closed(halves) => Answer {
-            kind: b'c',
-            first: bits(halves.midpoint),
-            second: bits(halves.half_gap),
-        },
-        Seam::Open(faulty) => Answer {
-            kind: b'o',
-            first: side(faulty),
-            second: 0,
-        },
-        Seam::Refused(number) => Answer {
-            kind: b'r',
-            first: number as u64,
-            second: 0,
-        },
+fn right(case: &Case<'_>) -> bool {
+    let [left, left_faulty, right, right_faulty, first, second] = case.numbers else {
+        return false;
+    };
+    match seam::join(*left, *left_faulty != 0, *right, *right_faulty != 0) {
+        Ok(Seam::Closed(halves)) => {
+            case.kind == b'c' && bits(halves.midpoint) == *first && bits(halves.half_gap) == *second
+        }
+        Ok(Seam::Open(faulty)) => case.kind == b'o' && number(faulty) == *first && *second == 0,
+        Err(refusal) => {
+            case.kind == b'r' && u64::from(refusal.number()) == *first && *second == 0
+        }
     }
 }
 
-fn side(faulty: Side) -> u64 {
+// The number of a side in the file.
+fn number(faulty: Side) -> u64 {
     match faulty {
         Side::Left => 1,
         Side::Right => 2,
@@ -77,8 +39,5 @@ fn side(faulty: Side) -> u64 {
 
 // The bit pattern, all ones for what is no number.
 fn bits(x: f64) -> u64 {
-    if x == x {
-        return f64::to_bits(x);
-    }
-    0xffff_ffff_ffff_ffff
+    if x.is_nan() { u64::MAX } else { x.to_bits() }
 }

@@ -13,6 +13,7 @@ ghost use Rattle.columns.specs.Wrote.{Wrote};
 
 use columns::marked;
 use seam::{Halves, LATEST, Seam, Side};
+use settings::refusal::Refusal;
 use words::head::Head;
 use words::{column, put_first, sixteen_hexadecimal};
 
@@ -69,10 +70,8 @@ fn run(
     ensures { Wrote out.old at (run_after (bytes head.length head.word) marks.now times.now gap from (to - from)) out.new result }
 {
     let mut end = at;
-    let mut b = from;
-    while b < to {
+    for b in from..to {
         end = seam(tables, head, marks, times, codes, b - gap, b, out, end);
-        b += 1;
     }
     end
 }
@@ -96,24 +95,22 @@ fn seam(
     let answer = joined(marks, times, codes, a, b);
     let words = labels(tables, head, a, b, out, at);
     match answer {
-        Seam::Closed(halves) => closed_words(tables, halves, out, words),
-        Seam::Open(faulty) => open_words(faulty, out, words),
-        Seam::Refused(_) => at,
+        Ok(Seam::Closed(halves)) => closed_words(tables, halves, out, words),
+        Ok(Seam::Open(faulty)) => open_words(faulty, out, words),
+        Err(_) => at,
     }
 }
 
 // The seam of two columns. Two codes in time are the times of correct tiles, and most are.
-fn joined(marks: &[u8], times: &[u64], codes: &[u64], a: usize, b: usize) -> Seam
+fn joined(marks: &[u8], times: &[u64], codes: &[u64], a: usize, b: usize) -> Result<Seam, Refusal>
     requires a_in_bounds { (a < length times.now) × (b < length times.now) × (length times.now ≤ 256) × (length marks.now ≡ mark_bytes (length times.now)) }
     requires times_in_bounds { (length times.now ≤ length codes.now) × Coded codes.now marks.now times.now (length times.now) }
     ensures { result ≡ seam_of (get_or times.now a 0) (marked marks.now a) (get_or times.now b 0) (marked marks.now b) }
 {
     let left = codes[a];
     let right = codes[b];
-    if left <= LATEST {
-        if right <= LATEST {
-            return seam::join(left, false, right, false);
-        }
+    if left <= LATEST && right <= LATEST {
+        return seam::join(left, false, right, false);
     }
     let left_faulty = marked(marks, a);
     let right_faulty = marked(marks, b);

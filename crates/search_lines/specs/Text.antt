@@ -1,9 +1,9 @@
 -- The lines of a search, in ASCII. Assumes nothing.
-use Rattle.std.specs.Prelude.{List, [], ◌∷◌, ◌++◌, ℕ, ◌-◌}
+use Rattle.std.specs.Prelude.{List, [], ◌∷◌, ◌++◌, ℕ, ◌-◌, Option, Some, None, Result, Ok, Err}
 use Rattle.settings.specs.declared.Settings.{Settings}
+use Rattle.settings.specs.declared.refusal.Refusal.{Refusal}
 use Rattle.reach.specs.Search.{reach_in_row}
-use Rattle.reach.specs.declared.Reached.{Reached}
-use Rattle.reach.specs.declared.Reached.TheVariants.{Within, Outside, Refused}
+use Rattle.reach.specs.declared.Range.{Range}
 use Rattle.lines.specs.Number.{decimal}
 use Rattle.lines.specs.Line.{space, line_end, line_text}
 
@@ -32,10 +32,10 @@ unfoldable pub largest_text : (largest : ℕ) → List ℕ
 largest_text n = ((largest_word ++ (space ∷ decimal n)) ++ (space ∷ ticks_word)) ++ (line_end ∷ [])
 
 -- §15.4 the reach of row f in row l, where that is a later row of the wall: its ticks and its hops
-unfoldable pub reach_text : (f l : ℕ) → Reached → List ℕ
-reach_text f l (Within r) = line_text r_word (f ∷ l ∷ r.ticks ∷ (l - f) ∷ [])
-reach_text f l Outside = []
-reach_text f l (Refused n) = []
+unfoldable pub reach_text : (f l : ℕ) → Result (Option Range) Refusal → List ℕ
+reach_text f l (Ok (Some r)) = line_text r_word (f ∷ l ∷ r.ticks ∷ (l - f) ∷ [])
+reach_text f l (Ok None) = []
+reach_text f l (Err why) = []
 
 -- §15.4 the same for each row that is asked for
 unfoldable pub reach_texts : Settings → (gap f : ℕ) → (asked : List ℕ) → List ℕ

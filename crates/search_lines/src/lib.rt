@@ -8,8 +8,7 @@ ghost use Rattle.reach.specs.Search.{reach_in_row};
 ghost use Rattle.search_lines.specs.Text.{largest_text, reach_text, gap_text};
 
 use lines::{byte, line, spaced, word};
-use reach::{Reached, reach_in_row};
-use settings::rounding::{less, smaller};
+use reach::reach_in_row;
 use stages::Place;
 
 // The largest reach over the wall, the last line of a whole answer.
@@ -24,7 +23,7 @@ pub fn largest_line(largest: u64, out: &mut [u8], at: usize) -> usize
 }
 
 // So many of the rows asked for count.
-pub const ASKED_MOST: u64 = 16;
+pub const ASKED_MOST: usize = 16;
 
 // B of the row, and its reach in each later row that is asked for.
 pub fn row_lines(asked: &[u64], place: Place, gap: u64, out: &mut [u8], at: usize) -> usize
@@ -32,11 +31,8 @@ pub fn row_lines(asked: &[u64], place: Place, gap: u64, out: &mut [u8], at: usiz
     ensures { Wrote out.old at (gap_text place.settings gap place.row (take 16 asked.now)) out.new result }
 {
     let mut end = line(b"b", &[place.row, gap], out, at);
-    let count = smaller(asked.len() as u64, ASKED_MOST) as usize;
-    let mut i = 0;
-    while i < count {
-        end = reach_line(place, gap, asked[i], out, end);
-        i += 1;
+    for later in asked.iter().take(ASKED_MOST) {
+        end = reach_line(place, gap, *later, out, end);
     }
     end
 }
@@ -48,11 +44,11 @@ fn reach_line(place: Place, gap: u64, later: u64, out: &mut [u8], at: usize) -> 
 {
     let settings = place.settings;
     match reach_in_row(settings, gap, place.row, later, 0) {
-        Reached::Within(range) => {
-            let hops = less(later, place.row);
+        Ok(Some(range)) => {
+            let hops = later.saturating_sub(place.row);
             line(b"r", &[place.row, later, range.ticks, hops], out, at)
         }
-        Reached::Outside => at,
-        Reached::Refused(_) => at,
+        Ok(None) => at,
+        Err(_) => at,
     }
 }

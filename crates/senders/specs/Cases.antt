@@ -1,6 +1,6 @@
 -- What is heard, at numbers, with unit 12 and hold 400. Each statement is proved in proofs/Cases.antt, under its name in small letters. Assumes
 -- nothing.
-use Rattle.std.specs.Prelude.{◌≡◌, true, false, List, [], ◌∷◌, map, ℕ, ◌-◌, ◌^◌}
+use Rattle.std.specs.Prelude.{◌≡◌, true, false, List, [], ◌∷◌, map, ℕ, ◌-◌, ◌^◌, Some, None}
 use Rattle.settings.specs.Settings.{settings}
 use Rattle.settings.specs.declared.Settings.{Settings}
 use Rattle.rule.specs.Stamp.{heard, silent, silence}
@@ -46,12 +46,12 @@ ReachesCases =
 -- §E5.3 the same of what is heard: a place past the count is not looked at, and silence is no number
 unfoldable pub DueCases : Type 0
 DueCases =
-    (due_code wall (senders 2 (136 ∷ 100 ∷ 100 ∷ silence ∷ [])) ≡ 512)
-    × (due_code wall (senders 2 (136 ∷ 100 ∷ 100 ∷ 900 ∷ [])) ≡ 512)
-    × (due_code wall (senders 3 (220 ∷ 100 ∷ 200 ∷ 300 ∷ [])) ≡ 608)
-    × (due_code wall (senders 2 (silence ∷ 100 ∷ 130 ∷ silence ∷ [])) ≡ 566)
-    × (due_code wall (senders 2 (90 ∷ silence ∷ 100 ∷ silence ∷ [])) ≡ 490)
-    × (due_code wall (senders 2 (90 ∷ silence ∷ silence ∷ 100 ∷ [])) ≡ silence)
+    (due_code wall (senders 2 (136 ∷ 100 ∷ 100 ∷ silence ∷ [])) ≡ Some 512)
+    × (due_code wall (senders 2 (136 ∷ 100 ∷ 100 ∷ 900 ∷ [])) ≡ Some 512)
+    × (due_code wall (senders 3 (220 ∷ 100 ∷ 200 ∷ 300 ∷ [])) ≡ Some 608)
+    × (due_code wall (senders 2 (silence ∷ 100 ∷ 130 ∷ silence ∷ [])) ≡ Some 566)
+    × (due_code wall (senders 2 (90 ∷ silence ∷ 100 ∷ silence ∷ [])) ≡ Some 490)
+    × (due_code wall (senders 2 (90 ∷ silence ∷ silence ∷ 100 ∷ [])) ≡ None)
 
 -- §E5.9 two neighbours or three, and each stamp at most 2^42 - 1, or 2^64 - 1
 unfoldable pub FitCases : Type 0

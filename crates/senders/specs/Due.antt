@@ -1,7 +1,7 @@
 -- When what is heard makes a tile pulse. Assumes nothing.
-use Rattle.std.specs.Prelude.{Bool, cond, ◌&&◌, List, ℕ, ◌+◌, leb}
+use Rattle.std.specs.Prelude.{Bool, cond, ◌&&◌, List, ℕ, ◌+◌, leb, Option, Some, None}
 use Rattle.settings.specs.declared.Settings.{Settings}
-use Rattle.rule.specs.Stamp.{Stamp, silence, unheard_of, unheard_in}
+use Rattle.rule.specs.Stamp.{Stamp, unheard_of, unheard_in}
 use Rattle.rule.specs.Pulse.{tile_P}
 use Rattle.senders.specs.Senders.{own_stamp, neighbour_stamps, unheard}
 use Rattle.senders.specs.declared.Senders.{Senders}
@@ -18,6 +18,6 @@ has_P k = leb k 1
 unfoldable pub reaches : Settings → (own : Stamp) → (neighbours : List Stamp) → (reading : ℕ) → Bool
 reaches s own ns v = has_P (unheard_of own + unheard_in ns) && leb (due s own ns) v
 
--- §E5.5 that reading as the code has it, for what is heard so far; while there is no P, one that none reaches
-unfoldable pub due_code : Settings → Senders → ℕ
-due_code s x = cond (has_P (unheard x)) (due s (own_stamp x) (neighbour_stamps x)) silence
+-- §E5.5 that reading as the code has it, for what is heard so far; none while there is no P
+unfoldable pub due_code : Settings → Senders → Option ℕ
+due_code s x = cond (has_P (unheard x)) (Some (due s (own_stamp x) (neighbour_stamps x))) None

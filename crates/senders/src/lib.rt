@@ -10,13 +10,13 @@ ghost use Rattle.senders.specs.Due.{due_code};
 use rule::forwarding;
 use rule::forwarding::SILENT;
 use settings::Settings;
-use settings::rounding::{larger, smaller};
 
 #[derive(Clone, Copy)]
 pub struct Senders {
     // How many neighbours there are: 2 or 3.
     pub count: u64,
-    // The readings at which own and the neighbours were first heard, or SILENT. Places past the count stay SILENT.
+    // The readings at which own and the neighbours were first heard, or SILENT. Places past the count stay SILENT. No Option: of such
+    // numbers the rule takes the least and the most as the earliest and the latest, and polzaintu_board in C holds them so.
     pub stamps: [u64; 4],
 }
 
@@ -32,6 +32,7 @@ struct Ends {
 
 impl Senders {
     // So many neighbours, and nothing heard.
+    #[tactic(auto, unfolding(crate::specs::Senders::unheard_all))]
     pub fn unheard_of(count: u64) -> Senders
         ensures { result ≡ unheard_all count }
     {
@@ -45,15 +46,11 @@ impl Senders {
     pub fn fit(self) -> bool
         ensures { result ≡ fit self }
     {
-        (2 <= self.count)
-            & (self.count <= 3)
-            & stamp_fits(self.stamps[0])
-            & stamp_fits(self.stamps[1])
-            & stamp_fits(self.stamps[2])
-            & stamp_fits(self.stamps[3])
+        (2..=3).contains(&self.count) && self.stamps.iter().all(|s| stamp_fits(*s))
     }
 
     // Whether a sender is heard, so that its next pulse is a repeat.
+    #[tactic(auto, unfolding(crate::specs::Senders::is_heard, crate::specs::Senders::code_at))]
     pub fn heard(self, place: usize) -> bool
         requires { place < 4 }
         ensures { result ≡ is_heard self place }
@@ -62,6 +59,7 @@ impl Senders {
     }
 
     // A pulse: the first of its sender makes the stamp, a repeat changes nothing.
+    #[tactic(auto, unfolding(crate::specs::Senders::heard_by))]
     pub fn hear(self, place: usize, reading: u64) -> Senders
         requires { place < 4 }
         ensures { result ≡ heard_by self place reading }
@@ -77,13 +75,13 @@ impl Senders {
         }
     }
 
-    // The reading P + A, with the unheard as silent. SILENT, which no reading reaches, while two or more are unheard.
-    pub fn due(self, settings: Settings) -> u64
+    // The reading P + A, with the unheard as silent; none while two or more are unheard.
+    pub fn due(self, settings: Settings) -> Option<u64>
         requires { (settings_refusal settings ≡ 0) × (fit self ≡ true) }
         ensures { result ≡ due_code settings self }
     {
         if 1 < self.unheard() {
-            return SILENT;
+            return None;
         }
         let ends = self.ends();
         let fixed = forwarding::adopted(
@@ -93,7 +91,7 @@ impl Senders {
             ends.least,
             ends.most,
         );
-        fixed.p + settings.hold
+        Some(fixed.p + settings.hold)
     }
 
     // How many of own and the neighbours are unheard.
@@ -101,11 +99,11 @@ impl Senders {
         requires { fit self ≡ true }
         ensures { result ≡ unheard self }
     {
-        let three = one(self.stamps[0]) + one(self.stamps[1]) + one(self.stamps[2]);
-        if self.count == 2 {
-            return three;
-        }
-        three + one(self.stamps[3])
+        let third = self.count == 3 && self.stamps[3] == SILENT;
+        u64::from(self.stamps[0] == SILENT)
+            + u64::from(self.stamps[1] == SILENT)
+            + u64::from(self.stamps[2] == SILENT)
+            + u64::from(third)
     }
 
     fn ends(self) -> Ends
@@ -113,27 +111,21 @@ impl Senders {
         ensures least { result.least ≡ code_of (earliest (neighbour_stamps self)) }
         ensures most { result.most ≡ code_of (latest (neighbour_stamps self)) }
     {
-        let least = smaller(self.stamps[1], self.stamps[2]);
-        let most = larger(self.stamps[1], self.stamps[2]);
+        let least = self.stamps[1].min(self.stamps[2]);
+        let most = self.stamps[1].max(self.stamps[2]);
         if self.count == 2 {
             return Ends { least, most };
         }
         Ends {
-            least: smaller(least, self.stamps[3]),
-            most: larger(most, self.stamps[3]),
+            least: least.min(self.stamps[3]),
+            most: most.max(self.stamps[3]),
         }
     }
 }
 
+#[tactic(auto, unfolding(crate::specs::Senders::stamp_fits))]
 fn stamp_fits(stamp: u64) -> bool
     ensures { result ≡ stamp_fits stamp }
 {
-    (stamp == SILENT) | (stamp <= LAST)
-}
-
-// 1 for a sender that is unheard, or 0.
-fn one(stamp: u64) -> u64
-    ensures { result ≡ unheard_of (stamp_of stamp) }
-{
-    if stamp == SILENT { 1 } else { 0 }
+    stamp == SILENT || stamp <= LAST
 }

@@ -4,10 +4,11 @@ use Prim.Native.Nat.{ℕ, ◌+◌, ◌*◌, ◌≤◌, ◌<◌}
 use native.Mathlib.Nat.{lt_of_mul-lt-mul_right}
 use native.Mathlib.Omega.{arith}
 use borrow.Author.Tests.{le-ltb}
-use Rattle.settings.specs.Settings.{drift_cost, settings_tests, settings_refusal}
+use Rattle.settings.specs.Settings.{drift_cost, settings_tests, settings_cause, settings_refusal}
 use Rattle.settings.specs.Limits.{Limits, SettingsPlain}
 use Rattle.settings.specs.declared.Settings.{Settings}
-use Rattle.settings.proofs.Laws.Refusal.{skip, end, within}
+use Rattle.settings.specs.declared.refusal.Refusal.TheVariants as why
+use Rattle.settings.proofs.Laws.Refusal.{skip, end, no_number, within}
 use Rattle.settings.proofs.Laws.Rounding.{up_least}
 use Rattle.settings.proofs.Laws.Settings.{limits}
 
@@ -19,17 +20,18 @@ cost_most r a c i =
     omega (arith, lt_of_mul-lt-mul_right (1000000 + r) below)
 
 kept : (s : Settings) → Limits s → settings_refusal s ≡ 0
-unfolding settings_refusal settings_tests
+unfolding settings_refusal settings_cause settings_tests
 kept s k =
-    skip 1 _ (within 6 256 s.width (omega (arith, k.width)) (omega (arith, k.width)))
-    ∙ skip 2 _ (within 1 1024 s.rows (omega (arith, k.rows)) (omega (arith, k.rows)))
-    ∙ skip 3 _ (within 1 1000000 s.delay (omega (arith, k.delay)) (omega (arith, k.delay)))
-    ∙ skip 4 _ (within 0 s.delay s.uncertainty (omega arith) (omega (arith, k.uncertainty)))
-    ∙ skip 5 _ (within 1 1000000 s.hold (omega (arith, k.hold)) (omega (arith, k.hold)))
-    ∙ skip 6 _ (within 0 10000 s.drift (omega arith) (omega (arith, k.drift)))
-    ∙ skip 7 _ (within 1 62500 s.unit (omega (arith, k.unit)) (omega (arith, k.unit)))
-    ∙ skip 8 _ (le-ltb s.unit _ (omega (arith, k.cost, cost_most s.drift s.hold k.c k.c_enough)))
-    ∙ end 9 (le-ltb s.hold (16 * s.unit) (omega (arith, k.held)))
+    no_number (settings_cause s)
+    (skip why.Width _ (within 6 256 s.width (omega (arith, k.width)) (omega (arith, k.width)))
+    ∙ skip why.Rows _ (within 1 1024 s.rows (omega (arith, k.rows)) (omega (arith, k.rows)))
+    ∙ skip why.Delay _ (within 1 1000000 s.delay (omega (arith, k.delay)) (omega (arith, k.delay)))
+    ∙ skip why.Uncertainty _ (within 0 s.delay s.uncertainty (omega arith) (omega (arith, k.uncertainty)))
+    ∙ skip why.Hold _ (within 1 1000000 s.hold (omega (arith, k.hold)) (omega (arith, k.hold)))
+    ∙ skip why.Drift _ (within 0 10000 s.drift (omega arith) (omega (arith, k.drift)))
+    ∙ skip why.Unit _ (within 1 62500 s.unit (omega (arith, k.unit)) (omega (arith, k.unit)))
+    ∙ skip why.UnitCost _ (le-ltb s.unit _ (omega (arith, k.cost, cost_most s.drift s.hold k.c k.c_enough)))
+    ∙ end why.UnitsHeld (le-ltb s.hold (16 * s.unit) (omega (arith, k.held))))
 
 pub settings_plain : SettingsPlain
 unfolding SettingsPlain

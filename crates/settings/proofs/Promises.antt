@@ -1,11 +1,9 @@
 -- The proofs of what specs/Promises.antt states. Assumes nothing.
-use mathlib.Core.Path.{sym}
 use Prim.Native.Nat.{◌+◌, ◌*◌, ◌<◌}
 use native.Mathlib.Omega.{arith}
-use borrow.Author.Tests.{eq-eqb, ne_eqb}
-use Rattle.settings.specs.Settings.{drift_cost, step, settings_refusal, checked, number_of as settings_number, record_of}
+use Rattle.settings.specs.Settings.{drift_cost, step, settings_cause, settings_refusal, checked}
 use Rattle.settings.specs.Promises.{CostRoundedUp, StepRoundedUp, SettingsAnswered}
-use Rattle.settings.proofs.Laws.Cases.{by_zero}
+use Rattle.settings.proofs.Laws.Refusal.{answered_number, accepted}
 use Rattle.settings.proofs.Laws.Rounding.{up_reaches, up_least}
 
 pub cost_rounded_up : CostRoundedUp
@@ -19,8 +17,5 @@ step_rounded_up h r =
     (omega (arith, up_reaches (2 * h * r) b), omega (arith, up_least (2 * h * r) b))
 
 pub settings_answered : SettingsAnswered
-unfolding SettingsAnswered checked settings_number record_of
-settings_answered s = (
-  by_zero (settings_refusal s) (λ e. rw (eq-eqb (settings_refusal s) 0 e) (sym e)) (λ n. rw (ne_eqb (settings_refusal s) 0 n)),
-  λ e. rw (eq-eqb (settings_refusal s) 0 e),
-)
+unfolding SettingsAnswered checked settings_refusal
+settings_answered s = (answered_number (settings_cause s) s, accepted (settings_cause s) s)

@@ -1,9 +1,9 @@
 -- What the definitions give at settings written out: the numbers 1 to 9 at and past each limit, c and J. Each statement is
 -- proved in proofs/Cases.antt, under its name in small letters. Assumes nothing.
-use Rattle.std.specs.Prelude.{◌≡◌, ℕ}
+use Rattle.std.specs.Prelude.{◌≡◌, ℕ, Ok, Err}
 use Rattle.settings.specs.Settings.{settings, drift_cost, step, step_of, settings_refusal, checked}
 use Rattle.settings.specs.declared.Settings.{Settings}
-use Rattle.settings.specs.declared.Checked.TheVariants.{Passed, Refused}
+use Rattle.settings.specs.declared.refusal.Refusal.TheVariants.{UnitCost}
 
 infix 50 ◌is◌
 -- §2.5 W, R, d, u, A, r and h, in this order, are given this number, which is 0 where they pass
@@ -17,8 +17,8 @@ SettingsCases =
     × settings 6 1 100 10 400 10000 16 is 0
     × settings 6 1 100 10 191 0 12 is 9
     × settings 6 1 100 10 192 0 12 is 0
-    × (checked (settings 6 1 100 10 400 10000 15) ≡ Refused 8)
-    × (checked (settings 6 1 100 10 400 10000 16) ≡ Passed (settings 6 1 100 10 400 10000 16))
+    × (checked (settings 6 1 100 10 400 10000 15) ≡ Err UnitCost)
+    × (checked (settings 6 1 100 10 400 10000 16) ≡ Ok (settings 6 1 100 10 400 10000 16))
 
 -- §2.1 all settings at their upper ends pass, and so do all at their lower ends; one past an end is that setting's number, 1 to 7.
 -- A hold of 1 and a unit of 1 are in their ranges, and then 9 and 8.

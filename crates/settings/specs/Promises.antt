@@ -1,8 +1,8 @@
 -- What is promised of settings. Each statement is proved in proofs/Promises.antt, under its name in small letters.
 -- Assumes nothing.
-use Rattle.std.specs.Prelude.{◌≡◌, ℕ, ◌+◌, ◌*◌, ◌≤◌, ◌<◌}
-use Rattle.std.proofs.Math.Option.{some}
-use Rattle.settings.specs.Settings.{drift_cost, step, settings_refusal, checked, number_of as settings_number, record_of}
+use Rattle.std.specs.Prelude.{◌≡◌, ℕ, ◌+◌, ◌*◌, ◌≤◌, ◌<◌, Ok}
+use Rattle.settings.specs.Refusal.{number_in}
+use Rattle.settings.specs.Settings.{drift_cost, step, settings_refusal, checked}
 use Rattle.settings.specs.declared.Settings.{Settings}
 
 -- §2.2 c is the least whole number that is enough
@@ -18,4 +18,4 @@ StepRoundedUp =
 -- §13.4 the answer has the settings' number, and where that is 0 the record
 unfoldable pub SettingsAnswered : Type 0
 SettingsAnswered =
-    (s : Settings) → (settings_number (checked s) ≡ settings_refusal s) × (settings_refusal s ≡ 0 → record_of (checked s) ≡ some s)
+    (s : Settings) → (number_in (checked s) ≡ settings_refusal s) × (settings_refusal s ≡ 0 → checked s ≡ Ok s)

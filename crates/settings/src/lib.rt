@@ -1,13 +1,13 @@
 // A wall's settings. `Settings::new` hands a record out only where it keeps every limit.
 #![tactic(auto)]
 
-pub mod rounding;
+pub mod refusal;
 
 ghost use Rattle.std.specs.Prelude.{◌≡◌, ◌≤◌};
-ghost use Rattle.settings.specs.Refusal.{outside};
-ghost use Rattle.settings.specs.Settings.{settings, settings_refusal, checked, drift_cost, step};
+ghost use Rattle.settings.specs.Refusal.{outside, answer};
+ghost use Rattle.settings.specs.Settings.{settings, settings_cause, checked, drift_cost, step};
 
-use crate::rounding::up;
+use crate::refusal::Refusal;
 
 // Drifts are counted in millionths.
 pub const MILLION: u64 = 1_000_000;
@@ -30,13 +30,6 @@ pub struct Settings {
     pub unit: u64,
 }
 
-#[derive(Clone, Copy)]
-pub enum Checked {
-    Passed(Settings),
-    // 1 to 9.
-    Refused(u32),
-}
-
 impl Settings {
     pub const WIDTH_LEAST: u64 = 6;
 
@@ -54,7 +47,16 @@ impl Settings {
     // A hold is at least this many units.
     pub const UNITS_HELD: u64 = 16;
 
-    pub fn new(w: u64, rows: u64, d: u64, u: u64, a: u64, r: u64, h: u64) -> Checked
+    #[tactic(auto, unfolding(crate::specs::Refusal::answer, crate::specs::Settings::checked, crate::specs::Settings::settings))]
+    pub fn new(
+        w: u64,
+        rows: u64,
+        d: u64,
+        u: u64,
+        a: u64,
+        r: u64,
+        h: u64,
+    ) -> Result<Settings, Refusal>
         ensures { result ≡ checked (settings w rows d u a r h) }
     {
         let made = Settings {
@@ -66,46 +68,43 @@ impl Settings {
             drift: r,
             unit: h,
         };
-        let number = made.refusal();
-        if number == 0 {
-            Checked::Passed(made)
-        } else {
-            Checked::Refused(number)
-        }
+        made.check()?;
+        Ok(made)
     }
 
-    // The number under which these settings are turned away, or 0.
-    pub fn refusal(self) -> u32
-        ensures { result ≡ settings_refusal self }
+    // Whether these settings keep every limit: the first that they don't is why they are turned away.
+    #[tactic(auto, unfolding(crate::specs::Refusal::answer, crate::specs::Refusal::first, crate::specs::Settings::settings_cause, crate::specs::Settings::settings_tests))]
+    pub fn check(self) -> Result<(), Refusal>
+        ensures { result ≡ answer (settings_cause self) tt }
     {
         if outside(Self::WIDTH_LEAST, Self::WIDTH_MOST, self.width) {
-            return 1;
+            return Err(Refusal::Width);
         }
         if outside(1, Self::ROWS_MOST, self.rows) {
-            return 2;
+            return Err(Refusal::Rows);
         }
         if outside(1, Self::DELAY_MOST, self.delay) {
-            return 3;
+            return Err(Refusal::Delay);
         }
         if outside(0, self.delay, self.uncertainty) {
-            return 4;
+            return Err(Refusal::Uncertainty);
         }
         if outside(1, Self::HOLD_MOST, self.hold) {
-            return 5;
+            return Err(Refusal::Hold);
         }
         if outside(0, Self::DRIFT_MOST, self.drift) {
-            return 6;
+            return Err(Refusal::Drift);
         }
         if outside(1, Self::UNIT_MOST, self.unit) {
-            return 7;
+            return Err(Refusal::Unit);
         }
         if self.unit < self.uncertainty + drift_cost(self.drift, self.hold) + 2 {
-            return 8;
+            return Err(Refusal::UnitCost);
         }
         if self.hold < Self::UNITS_HELD * self.unit {
-            return 9;
+            return Err(Refusal::UnitsHeld);
         }
-        0
+        Ok(())
     }
 }
 
@@ -114,7 +113,7 @@ fn drift_cost(r: u64, a: u64) -> u64
     requires { (r ≤ 10000) × (a ≤ 1000000) }
     ensures { result ≡ drift_cost r a }
 {
-    up(r * a, MILLION + r)
+    (r * a).div_ceil(MILLION + r)
 }
 
 // J, the step of the rule, for a checked unit and drift.
@@ -122,11 +121,12 @@ pub fn step(h: u64, r: u64) -> u64
     requires { (h ≤ 62500) × (r ≤ 10000) }
     ensures { result ≡ step h r }
 {
-    2 * h + up(2 * h * r, MILLION)
+    2 * h + (2 * h * r).div_ceil(MILLION)
 }
 
+#[tactic(auto, unfolding(crate::specs::Refusal::outside))]
 fn outside(low: u64, high: u64, v: u64) -> bool
     ensures { result ≡ outside low high v }
 {
-    v < low || high < v
+    !(low..=high).contains(&v)
 }

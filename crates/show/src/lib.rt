@@ -14,13 +14,13 @@ ghost use Rattle.lines.specs.Row.{step_room};
 ghost use Rattle.steps.specs.Take.{taken_of};
 
 use stages::{Place, Wall};
-use steps::Taken;
+use steps::RefusedAt;
 
 // Writes the text of a step that was taken from the row lent, its times and letters; answers where the text ends.
 pub fn show(
     tables: &[u64],
     wall: Wall,
-    taken: Taken,
+    taken: Result<Wall, RefusedAt>,
     part: &[u8],
     row: &[u64],
     letters: &[u8],
@@ -30,19 +30,21 @@ pub fn show(
     requires { Tables tables.now × (wall_fits wall (length row.now) ≡ true) × (wall_fits wall (length letters.now) ≡ true) × (at + step_room ≤ length out.old) × (taken ≡ taken_of (step_of wall (pulses row.now letters.now) part.now)) }
     ensures { Wrote out.old at (texts_of (step_of wall (pulses row.now letters.now) part.now).shows) out.new result }
 {
-    let number = taken.number;
-    if number != 0 {
-        return lines::refused_line(number as u64, taken.offset, out, at);
-    }
-    match wall {
-        Wall::New => at,
-        Wall::Start(_) => at,
-        Wall::Row(place) => {
-            let marks = fields::body((row.len() + 7) / 8, part);
-            lines(tables, place, marks, row, letters, out, at)
+    match taken {
+        Ok(_) => match wall {
+            Wall::New => at,
+            Wall::Start(_) => at,
+            Wall::Row(place) => {
+                let marks = fields::body((row.len() + 7) / 8, part);
+                lines(tables, place, marks, row, letters, out, at)
+            }
+            Wall::End(place) => last_lines(tables, place, row, letters, out, at),
+            Wall::Over => at,
+        },
+        Err(refused) => {
+            let number = u64::from(refused.refusal.number());
+            lines::refused_line(number, refused.offset, out, at)
         }
-        Wall::End(place) => last_lines(tables, place, row, letters, out, at),
-        Wall::Over => at,
     }
 }
 

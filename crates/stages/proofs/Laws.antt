@@ -1,36 +1,33 @@
 -- What fits a wall, test by test, and what is known where it fits. Assumes nothing.
 use mathlib.Core.Path.{◌≡◌, refl, sym, ◌∙◌, ap}
-use mathlib.Core.Bool.{true, false, cond, and-eq-true_iff}
-use Prim.Native.Nat.{ℕ, ◌+◌, ◌*◌, ◌≤◌, ◌<◌}
+use mathlib.Core.Bool.{true, cond, and-eq-true_iff}
+use Prim.Native.Nat.{ℕ, ◌≤◌}
 use lib.Dec.{eqb, leb}
-use borrow.Author.Tests.{eq-eqb, ne_eqb, eqb-true, le-leb, lt-leb, leb-true}
-use Rattle.settings.specs.Settings.{settings_refusal}
-use Rattle.contents.specs.Contents.{row_size}
+use borrow.Author.Tests.{eq-eqb, ne_eqb, eqb-true, leb-true}
+use Rattle.std.specs.Prelude.{Option, Some, None, is_ok}
+use Rattle.settings.specs.Refusal.{number, refused, answer}
+use Rattle.settings.specs.declared.refusal.Refusal.{Refusal}
+use Rattle.settings.specs.Settings.{settings_cause, settings_refusal}
+use Rattle.settings.proofs.Laws.Refusal.{numbered}
+use Rattle.settings.proofs.Laws.Settings.{limits}
 use Rattle.stages.specs.Fit.{due_size, passes, due_of, width_of, place_fits, wall_fits}
 use Rattle.stages.specs.declared.Place.{Place}
 use Rattle.stages.specs.declared.Wall.{Wall}
 use Rattle.stages.specs.declared.Wall.TheVariants.{New, Start, Row, End, Over}
 
-module _ (p : Place) (n : ℕ) where
-  pub not_passed : (settings_refusal p.settings ≡ 0 → ⊥) → place_fits p n ≡ false
-  unfolding place_fits passes
-  not_passed k = rw (ne_eqb (settings_refusal p.settings) 0 k)
+-- the settings pass where their check answers that they do
+pub checked_again : (p : Place) → is_ok (answer (settings_cause p.settings) (tt {0})) ≡ passes p
+unfolding passes settings_refusal
+checked_again p = go (settings_cause p.settings)
+  where
+    go : (c : Option Refusal) → is_ok (answer c (tt {0})) ≡ eqb (refused c) 0
+    go None = unfold answer in refl
+    go (Some why) = unfold answer in sym (ne_eqb (number why) 0 (numbered why))
 
-  module _ (pass : settings_refusal p.settings ≡ 0) where
-    pub other_length : (n ≡ p.settings.width → ⊥) → place_fits p n ≡ false
-    unfolding place_fits passes
-    other_length k = rw (eq-eqb (settings_refusal p.settings) 0 pass, ne_eqb n p.settings.width k)
-
-    module _ (long : n ≡ p.settings.width) where
-      pub past_rows : p.settings.rows < p.row → place_fits p n ≡ false
-      unfolding place_fits passes
-      past_rows i =
-          rw (eq-eqb (settings_refusal p.settings) 0 pass, eq-eqb n p.settings.width long, lt-leb p.row p.settings.rows i)
-
-      pub by_offset : p.row ≤ p.settings.rows → place_fits p n ≡ leb p.offset 4294967295
-      unfolding place_fits passes
-      by_offset i =
-          rw (eq-eqb (settings_refusal p.settings) 0 pass, eq-eqb n p.settings.width long, le-leb p.row p.settings.rows i)
+-- settings that pass are narrow
+pub narrow : (p : Place) → passes p ≡ true → p.settings.width ≤ 256
+unfolding passes
+narrow p e = (limits p.settings (eqb-true (settings_refusal p.settings) 0 e)).width.1
 
 -- a place that fits
 pub record Fit (p : Place) (n : ℕ) : Type 0 where
@@ -51,17 +48,6 @@ fit_of p n e =
       row = leb-true p.row p.settings.rows c.0;
       offset = leb-true p.offset 4294967295 c.1;
     }
-
--- what is due, by the settings
-module _ (p : Place) where
-  pub none_due : (settings_refusal p.settings ≡ 0 → ⊥) → (due_of (Start p) ≡ 0) × (due_of (Row p) ≡ 0)
-  unfolding due_of passes
-  none_due k = (rw (ne_eqb (settings_refusal p.settings) 0 k), rw (ne_eqb (settings_refusal p.settings) 0 k))
-
-  pub all_due : settings_refusal p.settings ≡ 0 →
-      (due_of (Start p) ≡ 3 + 8 * p.settings.width) × (due_of (Row p) ≡ row_size p.settings.width)
-  unfolding due_of passes due_size
-  all_due e = (rw (eq-eqb (settings_refusal p.settings) 0 e), rw (eq-eqb (settings_refusal p.settings) 0 e))
 
 -- a wall that fits a call is given what the definition of a step takes
 pub fits_due : (x : Wall) (n : ℕ) → wall_fits x n ≡ true → due_of x ≡ due_size x

@@ -37,6 +37,7 @@ pub const OFFSET_MOST: u64 = 4_294_967_295;
 
 impl Wall {
     // How many bytes the next step is given, fewer only where the file ends.
+    #[tactic(auto, using(crate::proofs::Laws::narrow, contents::proofs::Laws::Contents::row_small), unfolding(crate::specs::Fit::due_of, crate::specs::Fit::due_size))]
     pub fn due(self) -> usize
         ensures due { result ≡ due_of self }
         ensures few { result ≤ 7734 }
@@ -44,16 +45,18 @@ impl Wall {
         match self {
             Wall::New => 27,
             Wall::Start(place) => {
-                if place.settings.refusal() != 0 {
-                    return 0;
+                if place.passes() {
+                    3 + 8 * place.settings.width as usize
+                } else {
+                    0
                 }
-                3 + 8 * place.settings.width as usize
             }
             Wall::Row(place) => {
-                if place.settings.refusal() != 0 {
-                    return 0;
+                if place.passes() {
+                    row_fields::size(place.settings.width as usize)
+                } else {
+                    0
                 }
-                row_fields::size(place.settings.width as usize)
             }
             Wall::End(_) => 1,
             Wall::Over => 0,
@@ -61,56 +64,57 @@ impl Wall {
     }
 
     // How many times the wall's row has; none before its settings are taken.
+    #[tactic(auto, unfolding(crate::specs::Fit::width_of))]
     pub fn width(self) -> usize
         ensures width { result ≡ width_of self }
         ensures few { result ≤ 256 }
     {
         match self {
-            Wall::New => 0,
-            Wall::Start(place) => place_width(place),
-            Wall::Row(place) => place_width(place),
-            Wall::End(place) => place_width(place),
-            Wall::Over => 0,
+            Wall::Start(place) | Wall::Row(place) | Wall::End(place) => place.width(),
+            Wall::New | Wall::Over => 0,
         }
     }
 }
 
-fn place_width(place: Place) -> usize
-    ensures width { result ≡ cond (passes place) place.settings.width 0 }
-    ensures few { result ≤ 256 }
-{
-    let settings = place.settings;
-    if settings.refusal() != 0 {
-        return 0;
+impl Place {
+    // Whether the settings pass, checked again.
+    fn passes(self) -> bool
+        ensures { result ≡ passes self }
+    {
+        self.settings.check().is_ok()
     }
-    settings.width as usize
+
+    #[tactic(auto, using(crate::proofs::Laws::narrow))]
+    fn width(self) -> usize
+        ensures width { result ≡ cond (passes self) self.settings.width 0 }
+        ensures few { result ≤ 256 }
+    {
+        if self.passes() {
+            self.settings.width as usize
+        } else {
+            0
+        }
+    }
+
+    // Whether the place is one that steps leave, and the row is its wall's.
+    #[tactic(auto, unfolding(crate::specs::Fit::place_fits))]
+    fn fits(self, row: usize) -> bool
+        ensures { result ≡ place_fits self row }
+    {
+        self.passes()
+            && row as u64 == self.settings.width
+            && self.row <= self.settings.rows
+            && self.offset <= OFFSET_MOST
+    }
 }
 
 // Whether a row that is lent is as long as the wall is wide.
+#[tactic(auto, unfolding(crate::specs::Fit::wall_fits))]
 pub fn fits(wall: Wall, row: usize) -> bool
     ensures { result ≡ wall_fits wall row }
 {
     match wall {
-        Wall::New => true,
-        Wall::Start(place) => place_fits(place, row),
-        Wall::Row(place) => place_fits(place, row),
-        Wall::End(place) => place_fits(place, row),
-        Wall::Over => true,
+        Wall::Start(place) | Wall::Row(place) | Wall::End(place) => place.fits(row),
+        Wall::New | Wall::Over => true,
     }
-}
-
-// Whether a place is one that steps leave, and the row is its wall's.
-fn place_fits(place: Place, row: usize) -> bool
-    ensures { result ≡ place_fits place row }
-{
-    if place.settings.refusal() != 0 {
-        return false;
-    }
-    if row as u64 != place.settings.width {
-        return false;
-    }
-    if place.settings.rows < place.row {
-        return false;
-    }
-    place.offset <= OFFSET_MOST
 }

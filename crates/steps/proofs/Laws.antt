@@ -1,4 +1,5 @@
 -- The laws of the definitions, each file over one of them.
-pub mod Fit
 pub mod Taken
 pub mod Answer
+pub mod Fit
+pub mod Handed

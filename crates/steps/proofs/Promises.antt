@@ -2,36 +2,29 @@
 use mathlib.Core.Path.{◌≡◌, refl, ◌∙◌, ap}
 use mathlib.Core.Option.{none, some}
 use Prim.Native.Nat.{ℕ}
-use borrow.Author.Tests.{ne_eqb}
+use Rattle.std.specs.Prelude.{Option, Some, None, Result, Ok, Err}
+use Rattle.settings.specs.Refusal.{number, refused}
+use Rattle.settings.specs.declared.refusal.Refusal.{Refusal}
 use Rattle.row.specs.Row.{pulses}
 use Rattle.stages.specs.declared.Wall.{Wall}
 use Rattle.stages.specs.declared.Wall.TheVariants.{Over}
-use Rattle.steps.specs.Answer.{number_of, offset_of, wall_of, number_due, offset_due, wall_then}
+use Rattle.steps.specs.Answer.{number_of, offset_of, wall_of, cause_due, number_due, offset_due, wall_then}
 use Rattle.steps.specs.Promises.{TakeAnswered}
-use Rattle.steps.specs.Take.{taken, step_from, answer_of, row_after}
-use Rattle.steps.specs.declared.Answer.TheVariants as answer
-use Rattle.steps.proofs.Laws.Answer.{taken_goes, taken_gone, row_goes_on, row_stays}
+use Rattle.steps.specs.Take.{refused_at, taken_of, step_from, answer_of, row_after}
+use Rattle.steps.specs.declared.RefusedAt.{RefusedAt}
+use Rattle.steps.proofs.Laws.Answer.{cause_of, taken_goes, taken_gone, row_goes_on, row_stays}
 
--- the values of an answer
-module _ (x : Wall) where
-  pub values_on : (number_of (answer.Taken (taken x 0 0)) ≡ some 0) × (offset_of (answer.Taken (taken x 0 0)) ≡ none) × (wall_of (answer.Taken (taken x 0 0)) ≡ some x)
-  unfolding number_of offset_of wall_of taken
-  values_on = (refl, refl, refl)
-
-  pub values_away : (n at : ℕ) → (n ≡ 0 → ⊥) →
-      (number_of (answer.Taken (taken x n at)) ≡ some n) × (offset_of (answer.Taken (taken x n at)) ≡ some at) × (wall_of (answer.Taken (taken x n at)) ≡ some x)
-  unfolding number_of offset_of wall_of taken
-  values_away n at k = (refl, rw (ne_eqb n 0 k), refl)
+abbrev answered : Result Wall RefusedAt → Option (Result Wall RefusedAt)
+answered t = Some t
 
 pub take_answered : TakeAnswered
-unfolding TakeAnswered answer_of row_after step_from number_of offset_of wall_of
+unfolding TakeAnswered answer_of row_after step_from number_of offset_of wall_of number_due refused_at
 take_answered x part row held a next t = (
-  λ e. let is : a ≡ answer.Unfit = t.answered ∙ rw e in
-      (ap number_of is, ap offset_of is, ap wall_of is, t.written ∙ rw e),
-  λ e z. let is : a ≡ answer.Taken (taken (wall_then x part) 0 0) = t.answered ∙ rw e (ap answer.Taken (taken_goes (pulses row held.letters) part x z)) in
-      let v = values_on (wall_then x part) in
-      (ap number_of is ∙ v.0, ap offset_of is ∙ v.1, ap wall_of is ∙ v.2, t.written ∙ rw e (row_goes_on row part held x z)),
-  λ e k. let is : a ≡ answer.Taken (taken Over (number_due x row part) (offset_due x part)) = t.answered ∙ rw e (ap answer.Taken (taken_gone (pulses row held.letters) part x k)) in
-      let v = values_away Over (number_due x row part) (offset_due x part) k in
-      (ap number_of is ∙ v.0, ap offset_of is ∙ v.1, ap wall_of is ∙ v.2, t.written ∙ rw e (row_stays row part held x k)),
+  λ e. let is : a ≡ None = t.answered ∙ rw e in
+      (rw is, rw is, rw is, t.written ∙ rw e),
+  λ e z. let is : a ≡ Some (Ok (wall_then x part)) = t.answered ∙ rw e (ap answered (taken_goes (pulses row held.letters) part x z)) in
+      (rw is, rw is, rw is, t.written ∙ rw e (row_goes_on row part held x z)),
+  λ e k. let c = cause_of x row part k in
+      let is : a ≡ Some (Err (refused_at c.0 (offset_due x part))) = t.answered ∙ rw e (ap answered (taken_gone (pulses row held.letters) part x c.1)) in
+      (rw (is, c.1), rw is, rw is, t.written ∙ rw e (row_stays row part held x k)),
 )

@@ -1,40 +1,49 @@
 -- What the answer of a step means, and what it is in each case. Assumes nothing.
-use Rattle.std.specs.Prelude.{cond, List, [], ℕ, suc, ◌+◌, eqb, length}
-use Rattle.std.proofs.Math.Option.{Option, none, some}
+use Rattle.std.specs.Prelude.{cond, List, [], ℕ, suc, ◌+◌, eqb, length, Option, Some, None, Result, Ok, Err}
+use Rattle.std.proofs.Math.Option as known
+use Rattle.settings.specs.Refusal.{number, refused}
+use Rattle.settings.specs.declared.refusal.Refusal.{Refusal}
+use Rattle.settings.specs.declared.refusal.Refusal.TheVariants.{GoesOn}
 use Rattle.row.specs.Row.{Pulses, pulses, next_pulses}
 use Rattle.fields.specs.Field.{body}
 use Rattle.contents.specs.Contents.{settings_size, settings_in, start_size, times_in, row_size, marks_in, call_in}
 use Rattle.stages.specs.Fit.{place}
 use Rattle.stages.specs.declared.Wall.{Wall}
 use Rattle.stages.specs.declared.Wall.TheVariants.{New, Start, Row, End, Over}
-use Rattle.steps.specs.Number.{settings_number, start_number, row_number, row_offset}
+use Rattle.steps.specs.Number.{settings_field_cause, start_cause, row_fields_cause, row_offset}
 use Rattle.steps.specs.Shown.{Shown, row_shown, no_marks}
 use Rattle.steps.specs.Step.{after_row}
-use Rattle.steps.specs.declared.Answer.{Answer}
-use Rattle.steps.specs.declared.Answer.TheVariants as answer
+use Rattle.steps.specs.declared.RefusedAt.{RefusedAt}
 
 -- §13.3 the number that each case of the answer stands for, 0 where the part is accepted; what does not fit has none
-unfoldable pub number_of : Answer → Option ℕ
-number_of (answer.Taken t) = some t.number
-number_of answer.Unfit = none
+unfoldable pub number_of : Option (Result Wall RefusedAt) → known.Option ℕ
+number_of (Some (Ok x)) = known.some 0
+number_of (Some (Err r)) = known.some (number r.refusal)
+number_of None = known.none
 
 -- §13.3 the offset that comes with a refusal
-unfoldable pub offset_of : Answer → Option ℕ
-offset_of (answer.Taken t) = cond (eqb t.number 0) none (some t.offset)
-offset_of answer.Unfit = none
+unfoldable pub offset_of : Option (Result Wall RefusedAt) → known.Option ℕ
+offset_of (Some (Ok x)) = known.none
+offset_of (Some (Err r)) = known.some r.offset
+offset_of None = known.none
 
--- §13.3 the wall afterwards
-unfoldable pub wall_of : Answer → Option Wall
-wall_of (answer.Taken t) = some t.wall
-wall_of answer.Unfit = none
+-- §13.3 the wall afterwards: a refusal ends the file
+unfoldable pub wall_of : Option (Result Wall RefusedAt) → known.Option Wall
+wall_of (Some (Ok x)) = known.some x
+wall_of (Some (Err r)) = known.some Over
+wall_of None = known.none
+
+-- §9.7 why the part that is due is turned away
+unfoldable pub cause_due : Wall → (row part : List ℕ) → Option Refusal
+cause_due New ts bs = settings_field_cause bs
+cause_due (Start p) ts bs = start_cause p.settings bs
+cause_due (Row p) ts bs = row_fields_cause p.settings ts bs
+cause_due (End p) ts bs = cond (eqb (length bs) 0) None (Some GoesOn)
+cause_due Over ts bs = None
 
 -- §9.7 the number of the part that is due, 0 where it is accepted
 unfoldable pub number_due : Wall → (row part : List ℕ) → ℕ
-number_due New ts bs = settings_number bs
-number_due (Start p) ts bs = start_number p.settings bs
-number_due (Row p) ts bs = row_number p.settings ts bs
-number_due (End p) ts bs = cond (eqb (length bs) 0) 0 44
-number_due Over ts bs = 0
+number_due x ts bs = refused (cause_due x ts bs)
 
 -- §9.8 where a part is turned away: at the field that is due, at tag 4 for what a row's fields hold, at the first byte too many for 44
 unfoldable pub offset_due : Wall → (part : List ℕ) → ℕ

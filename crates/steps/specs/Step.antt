@@ -1,12 +1,14 @@
 -- The file step by step: each step is given the part of the file that is due, and the row that the last one left, its times and its
 -- letters. Row 0 has no letters, and the step that takes it leaves those that it is given. Assumes nothing.
-use Rattle.std.specs.Prelude.{cond, List, [], ◌∷◌, ◌++◌, ℕ, zero, suc, ◌+◌, eqb, ltb, length, take, drop}
+use Rattle.std.specs.Prelude.{cond, List, [], ◌∷◌, ◌++◌, ℕ, zero, suc, ◌+◌, eqb, ltb, length, take, drop, Option, Some, None}
 use Rattle.settings.specs.declared.Settings.{Settings}
+use Rattle.settings.specs.declared.refusal.Refusal.{Refusal}
+use Rattle.settings.specs.declared.refusal.Refusal.TheVariants.{GoesOn}
 use Rattle.row.specs.Row.{Pulses, pulses, next_pulses}
 use Rattle.fields.specs.Field.{body}
 use Rattle.contents.specs.Contents.{settings_size, settings_in, start_size, times_in, row_size, marks_in, call_in}
 use Rattle.steps.specs.Shown.{Shown, turned_away, row_shown, no_marks}
-use Rattle.steps.specs.Number.{settings_number, start_number, row_number, row_offset}
+use Rattle.steps.specs.Number.{settings_field_cause, start_cause, row_fields_cause, row_offset}
 use Rattle.stages.specs.declared.Wall.{Wall}
 use Rattle.stages.specs.declared.Wall.TheVariants.{New, Start, Row, End, Over}
 use Rattle.stages.specs.Fit.{place, due_size}
@@ -22,23 +24,26 @@ unfoldable pub stepped : Wall → (row : Pulses) → List Shown → Stepped
 stepped x r shows = record { next = x; row = r; shows = shows }
 
 -- §9.8 a refusal, which ends the file and leaves the row
-unfoldable pub away : (row : Pulses) → (number offset : ℕ) → Stepped
-away r n at = stepped Over r (turned_away n at ∷ [])
+unfoldable pub away : (row : Pulses) → (why : Refusal) → (offset : ℕ) → Stepped
+away r why at = stepped Over r (turned_away why at ∷ [])
+
+-- §9.7 the refusal of a part, where there is one, and otherwise the step of one that is accepted
+unfoldable pub unless : Option Refusal → (row : Pulses) → (offset : ℕ) → Stepped → Stepped
+unless None r at accepted = accepted
+unless (Some why) r at accepted = away r why at
 
 -- §9.2 the step that takes tag 1
 unfoldable pub settings_step : (row : Pulses) → (part : List ℕ) → Stepped
 settings_step r bs =
-    cond (eqb (settings_number bs) 0)
+    unless (settings_field_cause bs) r 0
     (stepped (Start (place (settings_in (body settings_size bs)) 0 (3 + settings_size))) r [])
-    (away r (settings_number bs) 0)
 
 -- §9.3 the step that takes tag 2: the row is then row 0
 unfoldable pub start_step : Settings → (at : ℕ) → (row : Pulses) → (part : List ℕ) → Stepped
 start_step s at r bs =
     let size = start_size s.width in
-    cond (eqb (start_number s bs) 0)
+    unless (start_cause s bs) r at
     (stepped (Row (place s 0 (at + (3 + size)))) (pulses (times_in s.width (body size bs)) r.letters) [])
-    (away r (start_number s bs) at)
 
 -- §17.3 what is due after row l: the next row, or after the last the end of the file
 unfoldable pub after_row : Settings → (l at : ℕ) → Wall
@@ -49,14 +54,13 @@ unfoldable pub row_step : Settings → (l at : ℕ) → (row : Pulses) → (part
 row_step s l at r bs =
     let w = s.width in
     let ts = r.times in
-    cond (eqb (row_number s ts bs) 0)
+    unless (row_fields_cause s ts bs) r (row_offset s at bs)
     (stepped (after_row s (suc l) (at + row_size w)) (next_pulses s ts (call_in w bs)) (row_shown s l (marks_in w bs) r))
-    (away r (row_number s ts bs) (row_offset s at bs))
 
 -- §9.6 the step at the file's end: row R is shown, or 44
 unfoldable pub end_step : Settings → (l at : ℕ) → (row : Pulses) → (part : List ℕ) → Stepped
 end_step s l at r bs =
-    cond (eqb (length bs) 0) (stepped Over r (row_shown s l (no_marks s.width) r)) (away r 44 at)
+    cond (eqb (length bs) 0) (stepped Over r (row_shown s l (no_marks s.width) r)) (away r GoesOn at)
 
 -- §17.3 the step that is due
 unfoldable pub step_of : Wall → (row : Pulses) → (part : List ℕ) → Stepped

@@ -5,8 +5,7 @@ ghost use Rattle.steps.specs.Step.{row_step, after_row};
 ghost use Rattle.stages.specs.Fit.{place_fits};
 ghost use Rattle.steps.specs.Take.{taken_of, row_left};
 
-use crate::Taken;
-use crate::steps::{refused, went_on};
+use crate::RefusedAt;
 use row_fields::{plan, size};
 use stages::{Place, Wall};
 
@@ -17,23 +16,21 @@ pub fn row(
     links: &mut [u64],
     next: &mut [u64],
     letters: &mut [u8],
-) -> Taken
+) -> Result<Wall, RefusedAt>
     requires { (place_fits place (length row.now) ≡ true) × (place_fits place (length next.old) ≡ true) × (place_fits place (length letters.old) ≡ true) × (770 ≤ length links.old) }
     ensures taken { result ≡ taken_of (row_step place.settings place.row place.offset (pulses row.now letters.old) part.now) }
     ensures row { pulses next.new letters.new ≡ row_left (row_step place.settings place.row place.offset (pulses row.now letters.old) part.now) (pulses next.old letters.old) }
 {
     let width = row.len();
     let marks = (width + 7) / 8;
-    let number = fields::refusal(3, marks, part);
-    if number != 0 {
-        return refused(number, place.offset);
-    }
-    let settings = place.settings;
-    let number = plan(settings, part, row, links, next, letters);
-    if number != 0 {
-        return refused(number, place.offset + (3 + marks as u64));
-    }
-    went_on(after(place, size(width) as u64))
+    let offset = place.offset;
+    fields::check(3, marks, part).map_err(|refusal| RefusedAt { refusal, offset })?;
+    let offset = offset + (3 + marks as u64);
+    plan(place.settings, part, row, links, next, letters).map_err(|refusal| RefusedAt {
+        refusal,
+        offset,
+    })?;
+    Ok(after(place, size(width) as u64))
 }
 
 // What is due after a row of that many bytes.

@@ -1,13 +1,12 @@
 -- What is claimed of a run, whatever its step: its turns, and what it hands over. Each kind of run proves them of its own step.
 -- Assumes nothing.
-use Rattle.std.specs.Prelude.{◌≡◌, true, List, [], ◌++◌, ℕ, length, take}
+use Rattle.std.specs.Prelude.{◌≡◌, true, List, [], ◌++◌, ℕ, length, take, Ok}
 use Rattle.row.specs.Row.{Pulses}
 use Rattle.stages.specs.Fit.{due_of}
 use Rattle.stream.specs.Run.{Kind}
 use Rattle.stream.specs.State.{MadeReady, Advanced, Standing, Ends}
 use Rattle.stream.specs.declared.State.{State}
 use Rattle.stream.specs.declared.Outcome.{Outcome}
-use Rattle.stream.specs.declared.Ended.TheVariants.{Done}
 
 -- §16.4 what `ready` and an `advance` ensure is one turn more of the chain
 unfoldable pub TurnRight : {K : Type 0} → Kind K → (first : K) → Type 0
@@ -25,7 +24,7 @@ RunRight {K} step first whole =
     let delivered = e.ran.delivered in
     let handed = e.ran.handed in
     (rest : List ℕ) → (r.state.window.ended ≡ true → rest ≡ []) →
-    (r.ended ≡ Done → handed ≡ whole (delivered ++ rest)) × (take (length handed) (whole (delivered ++ rest)) ≡ handed)
+    (r.ended ≡ Ok tt → handed ≡ whole (delivered ++ rest)) × (take (length handed) (whole (delivered ++ rest)) ≡ handed)
 
 -- §16.4 a run that is done, with a file delivered to it
 pub record DoneWith {K : Type 0} (step : Kind K) (first : K) (file : List ℕ) : Type 0 where
@@ -34,7 +33,7 @@ pub record DoneWith {K : Type 0} (step : Kind K) (first : K) (file : List ℕ) :
   pub lent : Pulses
   pub output : List ℕ
   pub ends : Ends step first outcome keeps lent output
-  pub done : outcome.ended ≡ Done
+  pub done : outcome.ended ≡ Ok tt
   pub delivered : ends.ran.delivered ≡ file
 
 -- §16.4 every file has one: what is claimed of runs is claimed of something

@@ -1,5 +1,5 @@
 -- A run between two of its steps: its state, and what reading, handing over and stepping leave. Assumes nothing.
-use Rattle.std.specs.Prelude.{◌≡◌, Bool, false, cond, ◌||◌, List, ℕ, ◌+◌, ◌-◌, ◌≤◌, min, ltb, length, take}
+use Rattle.std.specs.Prelude.{◌≡◌, Bool, false, cond, ◌||◌, List, ℕ, ◌+◌, ◌-◌, ◌≤◌, min, ltb, length, take, Result, Ok, Err, IfOk}
 use Rattle.lines.specs.Row.{step_room}
 use Rattle.columns.specs.Wrote.{Wrote}
 use Rattle.row.specs.Row.{Pulses, cut}
@@ -10,11 +10,9 @@ use Rattle.stages.specs.declared.Wall.{Wall}
 use Rattle.stages.specs.declared.Wall.TheVariants.{New, Over}
 use Rattle.stream.specs.Run.{Kind, brings, Ran}
 use Rattle.stream.specs.declared.State.{State}
-use Rattle.stream.specs.declared.Ended.{Ended}
-use Rattle.stream.specs.declared.Ended.TheVariants.{Done, ReadFailed, WriteFailed}
+use Rattle.stream.specs.declared.Failed.{Failed}
+use Rattle.stream.specs.declared.Failed.TheVariants as failed
 use Rattle.stream.specs.declared.Outcome.{Outcome}
-use Rattle.stream.specs.declared.Turn.{Turn}
-use Rattle.stream.specs.declared.Turn.TheVariants.{On, Stop}
 
 -- §16.2 the wall is one that steps leave, and the window and the text lie within buffers of so many bytes
 pub record Between (s : State) (input output : ℕ) : Type 0 where
@@ -43,9 +41,8 @@ pub record MadeReady (s : State) (before : List ℕ) (output : ℕ) (r : State) 
   pub room : r.text + step_room ≤ output
 
 -- §16.2 made ready, or stopped, which is not the end of a file
-unfoldable pub made_ready : State → (before : List ℕ) → (output : ℕ) → Turn → (after : List ℕ) → Type 0
-made_ready s before n (On r) after = MadeReady s before n r after
-made_ready s before n (Stop e) after = e ≡ Done → ⊥
+abbrev pub made_ready : State → (before : List ℕ) → (output : ℕ) → Result State Failed → (after : List ℕ) → Type 0
+made_ready s before n t after = IfOk t (λ r. MadeReady s before n r after)
 
 -- §16.2 where the due part ends in the buffer, or what there is of it
 abbrev pub part_end : State → ℕ
@@ -70,17 +67,17 @@ pub record Standing {K : Type 0} (step : Kind K) (first : K) (s : State) (k : K)
   pub ran : Ran step first s.window.ended s.wall k lent (bytes_in s.window input) (take s.text output)
 
 -- §16.3 the last text is handed over, all of it, or the state is as it was
-unfoldable pub finished : State → Ended → (after : State) → Type 0
-finished s Done r = r ≡ record { wall = s.wall; window = s.window; text = 0 }
-finished s ReadFailed r = ⊥
-finished s WriteFailed r = r ≡ s
+unfoldable pub finished : State → Result Unit Failed → (after : State) → Type 0
+finished s (Ok x) r = r ≡ record { wall = s.wall; window = s.window; text = 0 }
+finished s (Err failed.Read) r = ⊥
+finished s (Err failed.Write) r = r ≡ s
 
 -- §16.4 how a run ends: at a state that a chain of turns leads to, where the failed turn began if one failed. It is done only where the wall is
 -- over and all text is handed over.
 pub record Ends {K : Type 0} (step : Kind K) (first : K) (r : Outcome) (k : K) (lent : Pulses) (output : List ℕ) : Type 0 where
   pub held : List ℕ
   pub ran : Ran step first r.state.window.ended r.state.wall k lent held (take r.state.text output)
-  pub done : r.ended ≡ Done → (r.state.wall ≡ Over) × (r.state.text ≡ 0)
+  pub done : r.ended ≡ Ok tt → (r.state.wall ≡ Over) × (r.state.text ≡ 0)
 
 -- §16.4 a run from its start comes to this, with what it kept and with buffers that are its own
 pub record ComesTo {K : Type 0} (step : Kind K) (first : K) (r : Outcome) : Type 0 where

@@ -12,17 +12,15 @@ ghost use Rattle.stream.specs.State.{Starts, Between, made_ready, part_end, step
 
 use stages::Wall;
 use std::io::{ErrorKind, Read, Write};
-use window::{Reading, Window};
+use window::Window;
 
-// How a run ended.
-#[derive(Clone, Copy)]
-pub enum Ended {
-    // The file has ended, or is turned away, and the text is handed over.
-    Done,
+// Why a run stopped.
+#[derive(Clone, Copy, Debug, PartialEq, Eq)]
+pub enum Failed {
     // A read failed: no end of the file. What was shown before is handed over.
-    ReadFailed,
+    Read,
     // A write failed, or took nothing.
-    WriteFailed,
+    Write,
 }
 
 // A run between two steps.
@@ -37,7 +35,8 @@ pub struct State {
 // How a run ended and where: at its last state, or where the turn began whose read or write failed.
 #[derive(Clone, Copy)]
 pub struct Outcome {
-    pub ended: Ended,
+    // Done: the file has ended, or is turned away, and the text is handed over.
+    pub ended: Result<(), Failed>,
     pub state: State,
 }
 
@@ -93,19 +92,15 @@ impl State {
     }
 }
 
-#[derive(Clone, Copy)]
-pub enum Turn {
-    On(State),
-    Stop(Ended),
-}
-
 // Hands the text that is due to the writer, all of it, and answers how much is still due: none, or all where a write
-// failed or took nothing.
+// failed or took nothing. A number and no Result: it becomes the state's, so a run that passed over a failed write could not
+// show that there is room for the next step, nor that it is done.
 fn hand_over<W: Write>(to: &mut W, text: &[u8], state: State, output: &[u8]) -> usize
     requires { text.now ≡ take state.text output.now }
     ensures { (result ≡ 0) ⊎ (result ≡ length text.now) }
 {
     let mut done = 0;
+    // A `while`: each write takes as many bytes as it likes.
     while done < text.len() {
         let put = write_some(to, &text[done..], text, done);
         if put == 0 {
@@ -144,18 +139,15 @@ pub fn finish<W: Write>(to: &mut W, state: State, output: &[u8]) -> Outcome
     let left = hand_over(to, &output[..last], state, output);
     if left != 0 {
         return Outcome {
-            ended: Ended::WriteFailed,
+            ended: Err(Failed::Write),
             state,
         };
     }
-    let wall = state.wall;
-    let window = state.window;
     Outcome {
-        ended: Ended::Done,
+        ended: Ok(()),
         state: State {
-            wall,
-            window,
             text: left,
+            ..state
         },
     }
 }
@@ -169,7 +161,7 @@ pub fn ready<R: Read, W: Write>(
     due: usize,
     input: &mut [u8],
     output: &[u8],
-) -> Turn
+) -> Result<State, Failed>
     requires { Between state (length input.old) (length output.now) × (7734 ≤ length input.old) × (step_room ≤ length output.now) × (due ≡ due_of state.wall) × (due ≤ 7734) }
     ensures { made_ready state input.old (length output.now) result input.new }
 {
@@ -177,22 +169,19 @@ pub fn ready<R: Read, W: Write>(
     let text = state.text;
     if !window.lacks(due) {
         if text <= output.len() - lines::ROOM {
-            return Turn::On(state);
+            return Ok(state);
         }
     }
     let left = hand_over(to, &output[..text], state, output);
     if left != 0 {
-        return Turn::Stop(Ended::WriteFailed);
+        return Err(Failed::Write);
     }
     match window::fill(from, window, due, input) {
-        Reading::Ready(next) => {
-            let wall = state.wall;
-            Turn::On(State {
-                wall,
-                window: next,
-                text: left,
-            })
-        }
-        Reading::Failed => Turn::Stop(Ended::ReadFailed),
+        Ok(next) => Ok(State {
+            wall: state.wall,
+            window: next,
+            text: left,
+        }),
+        Err(_) => Err(Failed::Read),
     }
 }

@@ -2,10 +2,10 @@
 // filled once, and lent to `row_lines`.
 #![tactic(auto)]
 
-ghost use Rattle.std.specs.Prelude.{◌≡◌, ◌+◌, ◌*◌, ◌≤◌, ◌<◌, length};
+ghost use Rattle.std.specs.Prelude.{◌≡◌, ℕ, ◌+◌, ◌*◌, ◌/◌, ◌≤◌, ◌<◌, length, slice_index};
 ghost use Rattle.columns.specs.Columns.{table_from};
 ghost use Rattle.columns.specs.Wrote.{Wrote};
-ghost use Rattle.lines.specs.Number.{glyph as Number·glyph};
+ghost use Rattle.lines.specs.Number.{glyph as glyph_of};
 ghost use Rattle.tables.specs.Word.{pair, triple, spaced, word_of, Holds, Tables};
 
 // Where the parts stand. Eight hexadecimal digits are three, three and two of them: words of each three as
@@ -50,8 +50,10 @@ pub fn fill(table: &mut [u64])
     pairs(10, 0x1_0000_0000_0000, table, FOURTH_DIGITS);
     columns(table);
     lengths(table);
-    first_triples(table);
-    next_triples(table);
+    let (pairs, triples) = table.split_at_mut(FIRST_TRIPLES);
+    let (first, next) = triples.split_at_mut(NEXT_TRIPLES - FIRST_TRIPLES);
+    first_triples(pairs, first);
+    next_triples(first, next);
 }
 
 // The pairs of digits in a base, at one place of a word.
@@ -59,58 +61,65 @@ fn pairs(base: u64, place: u64, table: &mut [u64], at: usize)
     requires { (1 < base) × (base ≤ 16) × (place ≤ 281474976710656) × (at + base * base ≤ length table.old) }
     ensures { Wrote table.old at (table_from (base * base) 0 (λ k. pair base k * place)) table.new (at + base * base) }
 {
-    let count = base * base;
-    let mut k: u64 = 0;
-    while k < count {
-        table[at + k as usize] = (glyph(k / base) + 256 * glyph(k % base)) * place;
-        k += 1;
-    }
+    let end = at + (base * base) as usize;
+    fill_by(
+        &mut table[at..end],
+        |k|
+            requires { (1 < base) × (base ≤ 16) × (place ≤ 281474976710656) × (k < base * base) }
+            ensures { result ≡ pair base k * place }
+        { (glyph(k / base) + 256 * glyph(k % base)) * place },
+    );
 }
 
 fn columns(table: &mut [u64])
     requires { length table.old ≡ 9616 }
     ensures { Wrote table.old 912 (table_from 256 0 (λ k. word_of (spaced k))) table.new 1168 }
 {
-    let mut k: u64 = 0;
-    while k < 256 {
-        table[COLUMNS + k as usize] = short(k);
-        k += 1;
-    }
+    fill_by(&mut table[COLUMNS..LENGTHS], short);
 }
 
 fn lengths(table: &mut [u64])
     requires { length table.old ≡ 9616 }
     ensures { Wrote table.old 1168 (table_from 256 0 (λ k. length (spaced k))) table.new 1424 }
 {
-    let mut k: u64 = 0;
-    while k < 256 {
-        table[LENGTHS + k as usize] = short_length(k);
-        k += 1;
-    }
+    fill_by(&mut table[LENGTHS..FIRST_TRIPLES], short_length);
 }
 
 // Each three hexadecimal digits: the pair of the first two, and the third.
-fn first_triples(table: &mut [u64])
-    requires { (length table.old ≡ 9616) × Holds table.old 0 256 (λ k. pair 16 k * 1) }
-    ensures { Wrote table.old 1424 (table_from 4096 0 triple) table.new 5520 }
+fn first_triples(pairs: &[u64], triples: &mut [u64])
+    requires { (256 ≤ length pairs.now) × Holds pairs.now 0 256 (λ k. pair 16 k * 1) × (length triples.old ≡ 4096) }
+    ensures { triples.new ≡ table_from 4096 0 triple }
 {
-    let mut k: u64 = 0;
-    while k < 4096 {
-        let first = table[(k / 16) as usize];
-        table[FIRST_TRIPLES + k as usize] = first + 0x1_0000 * glyph(k % 16);
-        k += 1;
-    }
+    fill_by(
+        triples,
+        |k|
+            requires { (k < 4096) × (k / 16 < length pairs.now) × (slice_index pairs.now (k / 16) ≡ pair 16 (k / 16)) }
+            ensures { result ≡ triple k }
+        { pairs[(k / 16) as usize] + 0x1_0000 * glyph(k % 16) },
+    );
 }
 
 // The same, three bytes on.
-fn next_triples(table: &mut [u64])
-    requires { (length table.old ≡ 9616) × Holds table.old 1424 4096 triple }
-    ensures { Wrote table.old 5520 (table_from 4096 0 (λ k. triple k * 16777216)) table.new 9616 }
+fn next_triples(first: &[u64], triples: &mut [u64])
+    requires { (first.now ≡ table_from 4096 0 triple) × (length triples.old ≡ 4096) }
+    ensures { triples.new ≡ table_from 4096 0 (λ k. triple k * 16777216) }
 {
-    let mut k: u64 = 0;
-    while k < 4096 {
-        table[NEXT_TRIPLES + k as usize] = table[FIRST_TRIPLES + k as usize] * 0x100_0000;
-        k += 1;
+    fill_by(
+        triples,
+        |k|
+            requires { (k < 4096) × (k < length first.now) × (slice_index first.now k ≡ triple k) }
+            ensures { result ≡ triple k * 16777216 }
+        { first[k as usize] * 0x100_0000 },
+    );
+}
+
+// Fills a part, each place by its number there.
+fn fill_by<F: Fn(u64) -> u64>(part: &mut [u64], word: F)
+    requires { (k : ℕ) → k < length part.old → F.pre word k }
+    ensures { (k : ℕ) → k < length part.old → F.post word k (slice_index part.new k) }
+{
+    for (k, place) in part.iter_mut().enumerate() {
+        *place = word(k as u64);
     }
 }
 
@@ -154,7 +163,7 @@ pub fn short_length(n: u64) -> u64
 // `0` to `9`, then `a` to `f`.
 fn glyph(digit: u64) -> u64
     requires { digit < 16 }
-    ensures { (result ≡ Number·glyph digit) × (result < 128) }
+    ensures { (result ≡ glyph_of digit) × (result < 128) }
 {
     if digit < 10 {
         return 48 + digit;

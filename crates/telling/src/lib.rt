@@ -12,18 +12,19 @@ ghost use Rattle.telling.specs.Telling.{first_marked, row_says, telling};
 ghost use Rattle.told.specs.Telling.{Said};
 
 use columns::marked;
-use lines::line;
-use reach::survey::{Surveyed, survey};
+use fields::body;
+use lines::{line, refused_line};
+use reach::survey::survey;
 use search_lines::{largest_line, row_lines};
 use stages::{Place, Wall};
-use steps::Taken;
+use steps::RefusedAt;
 use told::Told;
 
 // The row is the last before the step, and the part is what the step took.
 pub fn tell(
     asked: &[u64],
     wall: Wall,
-    taken: Taken,
+    taken: Result<Wall, RefusedAt>,
     part: &[u8],
     row: &[u64],
     largest: u64,
@@ -33,49 +34,29 @@ pub fn tell(
     requires { (wall_fits wall (length row.now) ≡ true) × (taken ≡ taken_of (step_of wall (pulses row.now []) part.now)) × (at + step_room ≤ length out.old) }
     ensures { Said (telling (take 16 asked.now) wall largest row.now part.now) result out.old at out.new }
 {
-    let after = taken.wall;
-    let number = taken.number;
-    if number != 0 {
-        let end = lines::refused_line(number as u64, taken.offset, out, at);
-        return Told {
-            wall: after,
-            kept: largest,
-            end,
-        };
-    }
+    let after = match taken {
+        Ok(after) => after,
+        Err(away) => {
+            let number = u64::from(away.refusal.number());
+            return Told {
+                wall: Wall::Over,
+                kept: largest,
+                end: refused_line(number, away.offset, out, at),
+            };
+        }
+    };
     match wall {
-        Wall::New => Told {
-            wall: after,
-            kept: largest,
-            end: at,
-        },
-        Wall::Start(_) => Told {
-            wall: after,
-            kept: largest,
-            end: at,
-        },
         Wall::Row(place) => {
             let bytes = (row.len() + 7) / 8;
-            row_told(
-                asked,
-                place,
-                after,
-                &part[3..3 + bytes],
-                row,
-                largest,
-                out,
-                at,
-            )
+            let marks = body(bytes, part);
+            row_told(asked, place, after, marks, row, largest, out, at)
         }
-        Wall::End(_) => {
-            let end = largest_line(largest, out, at);
-            Told {
-                wall: after,
-                kept: largest,
-                end,
-            }
-        }
-        Wall::Over => Told {
+        Wall::End(_) => Told {
+            wall: after,
+            kept: largest,
+            end: largest_line(largest, out, at),
+        },
+        Wall::New | Wall::Start(_) | Wall::Over => Told {
             wall: after,
             kept: largest,
             end: at,
@@ -100,30 +81,25 @@ fn row_told(
     let width = row.len();
     let column = first_marked(width, marks);
     if column < width {
-        let end = line(b"faulty", &[place.row, column as u64], out, at);
         return Told {
             wall: Wall::Over,
             kept: largest,
-            end,
+            end: line(b"faulty", &[place.row, column as u64], out, at),
         };
     }
-    let settings = place.settings;
-    match survey(settings, place.row, largest, row) {
-        Surveyed::Row { gap, largest } => {
-            let end = row_lines(asked, place, gap, out, at);
-            Told {
-                wall: after,
-                kept: largest,
-                end,
-            }
-        }
-        // No row of a wall file is such a one.
-        Surveyed::Outside => Told {
+    match survey(place.settings, place.row, largest, row) {
+        Ok(Some(surveyed)) => Told {
+            wall: after,
+            kept: surveyed.largest,
+            end: row_lines(asked, place, surveyed.gap, out, at),
+        },
+        // No row of a wall file is outside it or turned away.
+        Ok(None) => Told {
             wall: Wall::Over,
             kept: largest,
             end: at,
         },
-        Surveyed::Refused(_) => Told {
+        Err(_) => Told {
             wall: Wall::Over,
             kept: largest,
             end: at,
@@ -136,12 +112,10 @@ fn first_marked(width: usize, marks: &[u8]) -> usize
     requires { (width ≤ 256) × (length marks.now ≡ mark_bytes width) }
     ensures { result ≡ first_marked width marks.now }
 {
-    let mut c = 0;
-    while c < width {
+    for c in 0..width {
         if marked(marks, c) {
             return c;
         }
-        c += 1;
     }
-    c
+    width
 }

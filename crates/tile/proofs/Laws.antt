@@ -1,33 +1,40 @@
 -- A tile's places: none late and few silent, place by place. Assumes nothing.
 use mathlib.Core.Path.{◌≡◌, refl, sym, ◌∙◌, ap, subst}
-use mathlib.Core.Bool.{Bool, true, false, not, true≢false}
+use mathlib.Core.Bool.{Bool, true, false, true≢false}
 use mathlib.Core.List.{List, [], ◌∷◌}
-use mathlib.Core.Option.{Option, none, some}
 use Prim.Native.Nat.{ℕ, zero, suc, ◌+◌, ◌≤◌}
 use lib.ListN.{length}
 use native.Mathlib.Omega.{arith}
-use lib.Dec.{ltb, eqb}
+use lib.Dec.{ltb}
 use lib.IntN.{ℤ, pos, negsuc, ◌-ℤ◌}
-use borrow.Author.Tests.{ltb-false, eq-eqb, ne_eqb}
-use Rattle.settings.specs.Refusal.{first, ◌when◌, outside, any_below}
-use Rattle.settings.specs.Settings.{settings_refusal, step_of}
+use borrow.Author.Tests.{ltb-false}
+use mir.Val.{bool_byte}
+use Rattle.std.specs.Prelude.{Option, Some, None, Ok}
+use Rattle.settings.specs.Refusal.{first, ◌when◌, or_else, refused, answer, outside, any_below}
+use Rattle.settings.specs.Settings.{settings_cause, settings_refusal, step_of}
 use Rattle.rule.specs.Signed.{natural}
 use Rattle.rule.specs.Stamp.{Stamp, heard, silent, ◌≼◌, earliest, latest, All, none, more, unheard_of, unheard_in, latest_stamp}
 use Rattle.rule.specs.Forward.{correction}
 use Rattle.rule.specs.Letter.{letter}
 use Rattle.rule.specs.Closed.{closed_P}
-use Rattle.rule.specs.declared.letter.Letter.{Letter}
-use Rattle.tile.specs.Tile.{late_from, late_at, silences, silent_at, count_silent, answer, answered, forwarded, own_stamp, number_of, P_of, correction_of, letter_of, stamp_from, stamp_at, reading_at, neighbour_places, neighbour_stamps, Readable, stamp_tests, tile_tests, tile_refusal}
+use Rattle.tile.specs.Tile.{late_from, late_at, silences, silent_at, count_silent, answered, forwarded, own_stamp, correction_of, stamp_from, stamp_at, reading_at, neighbour_places, neighbour_stamps, Readable, stamp_tests, tile_tests, tile_cause, tile_refusal}
 use Rattle.settings.specs.declared.Settings.{Settings}
-use Rattle.tile.specs.declared.Forwarded.TheVariants.{Corrected, Uncorrected, Refused}
+use Rattle.settings.specs.declared.refusal.Refusal.{Refusal}
+use Rattle.settings.specs.declared.refusal.Refusal.TheVariants as why
+use Rattle.tile.specs.declared.Forwarded.{Forwarded}
 use Rattle.tile.specs.declared.Stamps.{Stamps}
-use Rattle.settings.proofs.Laws.Cases.{by_order, by_zero}
-use Rattle.settings.proofs.Laws.Refusal.{neither, unhit, unhit_given, inside}
+use Rattle.settings.proofs.Laws.Cases.{by_order}
+use Rattle.settings.proofs.Laws.Refusal.{neither, unhit, unhit_given, inside, accepted as is_answered}
 use Rattle.settings.proofs.Laws.AnyBelow.{none_below, same_below}
 use Rattle.settings.proofs.Laws.Settings.{limits}
 use Rattle.rule.proofs.Laws.Closed.{rule_closed}
 use Rattle.rule.proofs.Laws.Stamp.{By, heard_by, unheard, earliest_≼_latest}
 use Rattle.rule.proofs.Laws.Forward.{Enough, enough}
+
+pub silent_is : (b : Bool) → bool_byte b ≡ count_silent b
+unfolding count_silent
+silent_is true = refl
+silent_is false = refl
 
 pub silent_most : (b : Bool) → count_silent b ≤ 1
 unfolding count_silent
@@ -56,14 +63,15 @@ abbrev pub closed_of : Settings → (own least most : Stamp) → ℕ
 closed_of s own l m = closed_P s.unit (step_of s) own l m
 
 module _ (s : Settings) (accepted : settings_refusal s ≡ 0) {l m : Stamp} (ordered : l ≼ m) where
-  pub answered_silent : answered s silent l m ≡ Uncorrected (pos (closed_of s silent l m)) (letter s.unit (step_of s) silent l m)
-  unfolding answered answer correction
+  pub answered_silent : answered s silent l m
+      ≡ record { p = pos (closed_of s silent l m); correction = None; letter = letter s.unit (step_of s) silent l m }
+  unfolding answered correction
   answered_silent = rw (rule_closed (limits s accepted).unit.0 (step_of s) silent ordered)
 
   pub answered_heard : (o : ℕ) →
       answered s (heard o) l m
-      ≡ Corrected (pos (closed_of s (heard o) l m)) (pos o -ℤ pos (closed_of s (heard o) l m)) (letter s.unit (step_of s) (heard o) l m)
-  unfolding answered answer correction
+      ≡ record { p = pos (closed_of s (heard o) l m); correction = Some (pos o -ℤ pos (closed_of s (heard o) l m)); letter = letter s.unit (step_of s) (heard o) l m }
+  unfolding answered correction
   answered_heard o = rw (rule_closed (limits s accepted).unit.0 (step_of s) (heard o) ordered)
 
 -- the stamps of places that are not late are heard by 2^41 - 1
@@ -114,12 +122,12 @@ pub record Accepted (s : Settings) (x : Stamps) : Type 0 where
   pub few_silent : silences x (suc x.count) ≤ 1
 
 pub accepted : (s : Settings) (x : Stamps) → tile_refusal s x ≡ 0 → Accepted s x
-unfolding tile_refusal tile_tests stamp_tests
+unfolding tile_refusal tile_cause tile_tests stamp_tests settings_refusal
 accepted s x e =
-    let t1 = unhit_given (settings_refusal s) _ e in
-    let t2 = unhit 10 (outside 2 3 x.count) _ t1.1 in
-    let t3 = unhit 11 (any_below (suc x.count) (late_at x)) _ t2.1 in
-    let t4 = unhit 12 (ltb 1 (silences x (suc x.count))) _ t3.1 in
+    let t1 = unhit_given (settings_cause s) _ e in
+    let t2 = unhit why.Neighbours (outside 2 3 x.count) _ t1.1 in
+    let t3 = unhit why.Stamp (any_below (suc x.count) (late_at x)) _ t2.1 in
+    let t4 = unhit why.Silences (ltb 1 (silences x (suc x.count))) _ t3.1 in
     let k = inside 2 3 x.count t2.0 in
     record {
       settings = t1.0;
@@ -168,37 +176,23 @@ module _ {s : Settings} {x : Stamps} (a : Accepted s x) where
         ordered = earliest_≼_latest (stamp_at x 1) (stamp_at x 2 ∷ []);
       }))
 
--- an answer's number and values
-module _ (p : ℤ) (x : Letter) where
-  pub answer_number : (c : Option ℤ) → number_of (answer p c x) ≡ 0
-  unfolding answer number_of
-  answer_number none = refl
-  answer_number (some c) = refl
+-- a tile that has a correction is not turned away
+pub corrected : (c : Option Refusal) (f : Forwarded) {z : ℤ} → correction_of (answer c f) ≡ Some z → refused c ≡ 0
+unfolding answer correction_of
+corrected None f e = refl
+corrected (Some r) f e = cc e
 
-  pub answer_P : (c : Option ℤ) → P_of (answer p c x) ≡ some p
-  unfolding answer P_of
-  answer_P none = refl
-  answer_P (some c) = refl
-
-  pub answer_correction : (c : Option ℤ) → correction_of (answer p c x) ≡ c
-  unfolding answer correction_of
-  answer_correction none = refl
-  answer_correction (some c) = refl
-
-  pub answer_letter : (c : Option ℤ) → letter_of (answer p c x) ≡ some x
-  unfolding answer letter_of
-  answer_letter none = refl
-  answer_letter (some c) = refl
-
--- a tile that is not turned away, and one that is
+-- a tile that is not turned away
 module _ (s : Settings) (x : Stamps) where
-  pub forwarded_accepted : tile_refusal s x ≡ 0 → forwarded s x ≡ answered s (own_stamp x) (earliest (neighbour_stamps x)) (latest (neighbour_stamps x))
-  unfolding forwarded
-  forwarded_accepted e = rw (eq-eqb (tile_refusal s x) 0 e)
+  pub forwarded_accepted : tile_refusal s x ≡ 0 → forwarded s x ≡ Ok (answered s (own_stamp x) (earliest (neighbour_stamps x)) (latest (neighbour_stamps x)))
+  unfolding forwarded tile_refusal
+  forwarded_accepted e = is_answered (tile_cause s x) _ e
 
-  pub forwarded_refused : (tile_refusal s x ≡ 0 → ⊥) → forwarded s x ≡ Refused (tile_refusal s x)
-  unfolding forwarded
-  forwarded_refused n = rw (ne_eqb (tile_refusal s x) 0 n)
+-- two answers of one cause
+same_answer : {A : Type 0} (c : Option Refusal) (a b : A) → (refused c ≡ 0 → a ≡ b) → answer c a ≡ answer c b
+unfolding answer
+same_answer None a b f = ap Ok (f refl)
+same_answer (Some r) a b f = refl
 
 -- two tiles that agree at the places read
 pub record Alike (x y : Stamps) : Type 0 where
@@ -231,11 +225,11 @@ module _ {x y : Stamps} (a : Alike x y) where
   silences_alike zero i = refl
   silences_alike (suc n) i = rw (silences_alike n (omega arith), a.silent n (omega arith))
 
-  pub refusal_alike : (s : Settings) → tile_refusal s x ≡ tile_refusal s y
-  unfolding tile_refusal tile_tests stamp_tests
-  refusal_alike s =
+  cause_alike : (s : Settings) → tile_cause s x ≡ tile_cause s y
+  unfolding tile_cause tile_tests stamp_tests
+  cause_alike s =
       rw (same_below (late_at x) (late_at y) (suc x.count) (λ k i. late_alike k (omega arith)), silences_alike (suc x.count) (omega arith))
-      (ap (λ (n : ℕ). first (settings_refusal s when not (eqb (settings_refusal s) 0) ∷ 11 when outside 2 3 n ∷ 12 when any_below (suc n) (late_at y) ∷ 13 when ltb 1 (silences y (suc n)) ∷ [])) a.count)
+      (ap (λ (n : ℕ). or_else (settings_cause s) (first (why.Neighbours when outside 2 3 n ∷ why.Stamp when any_below (suc n) (late_at y) ∷ why.Silences when ltb 1 (silences y (suc n)) ∷ []))) a.count)
 
   pub neighbours_alike : Readable x → neighbour_stamps x ≡ neighbour_stamps y
   neighbours_alike r =
@@ -246,9 +240,8 @@ module _ {x y : Stamps} (a : Alike x y) where
       rw (two_neighbours x two, two_neighbours y (sym a.count ∙ two), stamp_alike 1 (omega arith), stamp_alike 2 (omega arith)))
 
   pub forwarded_alike : (s : Settings) → forwarded s x ≡ forwarded s y
-  unfolding own_stamp
+  unfolding forwarded own_stamp tile_refusal
   forwarded_alike s =
-      let r = refusal_alike s in
-      by_zero (tile_refusal s x)
-      (λ e. forwarded_accepted s x e ∙ rw (neighbours_alike (accepted s x e).readable, stamp_alike 0 (omega arith)) (sym (forwarded_accepted s y (sym r ∙ e))))
-      (λ n. forwarded_refused s x n ∙ ap Refused r ∙ sym (forwarded_refused s y (λ q. n (r ∙ q))))
+      rw (cause_alike s)
+      (same_answer (tile_cause s y) _ _
+      (λ e. rw (neighbours_alike (accepted s x (rw (cause_alike s) e)).readable, stamp_alike 0 (omega arith))))

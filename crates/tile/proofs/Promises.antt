@@ -1,25 +1,22 @@
 -- The proofs of what specs/Promises.antt states. Assumes nothing.
-use mathlib.Core.Path.{◌≡◌, sym, ◌∙◌, ap}
-use mathlib.Core.Option.{some}
-use Prim.Native.Nat.{ℕ}
-use native.Mathlib.Omega.{arith}
+use mathlib.Core.Path.{◌≡◌, refl, sym, ◌∙◌, ap}
+use Rattle.std.specs.Prelude.{Some}
 use Rattle.settings.specs.Settings.{step_of}
 use Rattle.rule.specs.Stamp.{earlier, later, earliest, latest, latest_stamp}
 use Rattle.rule.specs.Signed.{natural}
-use Rattle.rule.specs.Forward.{P, correction}
 use Rattle.rule.specs.Pulse.{tile_letter}
-use Rattle.tile.specs.Tile.{silent_at, reading_at, stamp_from, stamp_at, own_stamp, neighbour_places, neighbour_stamps, tile_refusal, answered, number_of, correction_of}
+use Rattle.tile.specs.Tile.{silent_at, reading_at, stamp_from, stamp_at, own_stamp, neighbour_places, neighbour_stamps, tile_cause, tile_refusal, answered, forwarded, P_of, correction_of, letter_of}
 use Rattle.tile.specs.Cases.{reading_in, marked_in, stamps, heard as at}
 use Rattle.rule.specs.Promises.{Tile, PExact}
 use Rattle.tile.specs.Promises.{TileAnswered, PastCount, PRange, correction_most, CorrectionRange, CorrectionEnds}
 use Rattle.settings.specs.declared.Settings.{Settings}
 use Rattle.tile.specs.declared.Stamps.{Stamps}
-use Rattle.settings.proofs.Laws.Cases.{by_zero}
+use Rattle.settings.proofs.Laws.Refusal.{answered_number}
 use Rattle.settings.proofs.Laws.Settings.{limits, step_small}
 use Rattle.rule.proofs.Laws.Stamp.{earliest_by, latest_by}
 use Rattle.rule.proofs.Laws.Forward.{P_most}
 use Rattle.rule.proofs.Promises.{closed, p_exact}
-use Rattle.tile.proofs.Laws.{Accepted, accepted, stamped, answer_number, answer_P, answer_correction, answer_letter, forwarded_accepted, forwarded_refused, forwarded_alike}
+use Rattle.tile.proofs.Laws.{Accepted, accepted, stamped, corrected as has_correction, forwarded_accepted, forwarded_alike}
 use Rattle.tile.proofs.Range.{corrected, late_own, early_own, late_accepted, early_accepted}
 
 -- a tile that is not turned away has stamps that the rule takes
@@ -27,17 +24,11 @@ tile_of : {s : Settings} {x : Stamps} → Accepted s x → Tile s (neighbour_sta
 tile_of a = record { checked = a.settings; two = (stamped a).two }
 
 pub tile_answered : TileAnswered
-unfolding TileAnswered PExact answered number_of tile_letter
-tile_answered s x =
-    let own = own_stamp x in
-    let ns = neighbour_stamps x in
-    let p = P s.unit (step_of s) own (earliest ns) (latest ns) in
-    let c = correction s.unit (step_of s) own (earliest ns) (latest ns) in
-    let y = tile_letter s own ns in (
-      by_zero (tile_refusal s x) (λ e. rw (forwarded_accepted s x e) (answer_number p y c ∙ sym e)) (λ n. rw (forwarded_refused s x n)),
-      λ e. rw (forwarded_accepted s x e)
-          (answer_P p y c ∙ ap some (p_exact s own ns (tile_of (accepted s x e))), answer_correction p y c, answer_letter p y c),
-    )
+unfolding TileAnswered PExact tile_refusal P_of correction_of letter_of answered tile_letter
+tile_answered s x = (
+  unfold forwarded in answered_number (tile_cause s x) _,
+  λ e. rw (forwarded_accepted s x e) (ap Some (p_exact s (own_stamp x) (neighbour_stamps x) (tile_of (accepted s x e))), refl, refl),
+)
 
 pub past_count : PastCount
 unfolding PastCount
@@ -52,13 +43,12 @@ p_range s x e =
     (P_most (limits s a.settings).unit.0 (step_of s) t.heard_enough t.ordered t.own_by (earliest_by t.all_by) (latest_by t.all_by))
 
 pub correction_range : CorrectionRange
-unfolding CorrectionRange TileAnswered own_stamp correction_of
+unfolding CorrectionRange TileAnswered own_stamp
 correction_range s x c e =
-    by_zero (tile_refusal s x)
-    (λ z. let a = accepted s x z in
+    let z : tile_refusal s x ≡ 0 = unfold forwarded tile_refusal in has_correction (tile_cause s x) _ e in
+    let a = accepted s x z in
     let t = stamped a in
-    corrected s c (limits s a.settings) t.heard_enough t.ordered t.own_by (earliest_by t.all_by) (sym ((tile_answered s x).1 z).1 ∙ e))
-    (λ n. let never : ◌≡◌ {A = ℕ} 0 1 = cc (forwarded_refused s x n) in let no : ⊥ = omega arith in absurd no)
+    corrected s c (limits s a.settings) t.heard_enough t.ordered t.own_by (earliest_by t.all_by) (sym ((tile_answered s x).1 z).1 ∙ e)
 
 pub correction_ends : CorrectionEnds
 unfolding CorrectionEnds TileAnswered correction_most step_of own_stamp neighbour_stamps neighbour_places stamp_at stamp_from silent_at reading_at natural stamps reading_in marked_in earliest latest earlier later

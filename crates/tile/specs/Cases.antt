@@ -1,12 +1,15 @@
 -- What the definitions give for stamps written out: the numbers 11 to 13 at and past each limit, and answers. Each statement is
 -- proved in proofs/Cases.antt, under its name in small letters. Assumes nothing.
-use Rattle.std.specs.Prelude.{◌≡◌, Bool, true, false, [], ◌∷◌, ℕ, ◌-◌, ◌^◌, ℤ, pos, negsuc, neg_ℤ}
+use Rattle.std.specs.Prelude.{◌≡◌, Bool, true, false, [], ◌∷◌, ℕ, ◌-◌, ◌^◌, ℤ, pos, negsuc, neg_ℤ, Some, None, Result, Ok, Err}
 use Rattle.settings.specs.Settings.{settings}
 use Rattle.tile.specs.Tile.{tile_refusal, forwarded}
 use Rattle.settings.specs.declared.Settings.{Settings}
 use Rattle.tile.specs.declared.Stamps.{Stamps}
 use Rattle.rule.specs.declared.letter.Letter.TheVariants.{Kept, Early, Middle, Back, Late}
-use Rattle.tile.specs.declared.Forwarded.TheVariants.{Corrected, Uncorrected, Refused}
+use Rattle.tile.specs.declared.Forwarded.{Forwarded}
+use Rattle.settings.specs.declared.refusal.Refusal.{Refusal}
+use Rattle.settings.specs.declared.refusal.Refusal.TheVariants as why
+use Rattle.rule.specs.declared.letter.Letter.{Letter}
 
 -- §6.1 what stands at a place: a reading, one below zero, or a mark of silence beside a reading
 pub data Place : Type 0 where
@@ -103,27 +106,35 @@ TileOrder =
     × (tile_refusal (settings 6 1 100 10 191 0 12) (stamps 1 (heard 100) (heard 100) (heard 100) (heard 100)) ≡ 9)
     × (tile_refusal (settings 5 1 100 10 400 0 12) (stamps 3 (silent 0) (silent 0) (heard 100) (heard 100)) ≡ 1)
 
+-- §6.3 an answer of P, a correction and a letter
+unfoldable pub corrected : (p correction : ℤ) → Letter → Result Forwarded Refusal
+corrected p c x = Ok (record { p = p; correction = Some c; letter = x })
+
+-- §6.3 an answer of P and a letter, with no correction
+unfoldable pub uncorrected : (p : ℤ) → Letter → Result Forwarded Refusal
+uncorrected p x = Ok (record { p = p; correction = None; letter = x })
+
 -- §14.1 P, the correction and the letter of some of the cases, by two neighbours and by three; no correction where own is silent, and none of
 -- these where the tile is turned away
 unfoldable pub AnswerCases : Type 0
 AnswerCases =
-    (forwarded wall (stamps 2 (heard 100) (heard 100) (heard 100) (heard 900)) ≡ Corrected (pos 100) (pos 0) Kept)
-    × (forwarded wall (stamps 2 (heard 200) (heard 100) (heard 100) (heard 900)) ≡ Corrected (pos 136) (pos 64) Late)
-    × (forwarded wall (stamps 2 (heard 63) (heard 100) (heard 100) (heard 0)) ≡ Corrected (pos 64) (negsuc 0) Early)
-    × (forwarded wall (stamps 2 (heard 220) (heard 300) (heard 100) (heard 0)) ≡ Corrected (pos 208) (pos 12) Middle)
-    × (forwarded wall (stamps 3 (heard 110) (heard 50) (heard 100) (heard 0)) ≡ Corrected (pos 86) (pos 24) Back)
-    × (forwarded wall (stamps 2 (silent 0) (heard 100) (heard 130) (heard 900)) ≡ Uncorrected (pos 166) Late)
-    × (forwarded wall (stamps 3 (silent 0) (heard 100) (heard 120) (heard 130)) ≡ Uncorrected (pos 166) Late)
-    × (forwarded wall (stamps 2 (heard 50) (silent 0) (heard 100) (heard 0)) ≡ Corrected (pos 64) (negsuc 13) Early)
-    × (forwarded wall (stamps 1 (heard 100) (heard 100) (heard 100) (heard 100)) ≡ Refused 11)
-    × (forwarded wall (stamps 2 (heard (2 ^ 41)) (heard 100) (heard 100) (heard 100)) ≡ Refused 12)
-    × (forwarded wall (stamps 2 (silent 0) (silent 0) (heard 100) (heard 100)) ≡ Refused 13)
+    (forwarded wall (stamps 2 (heard 100) (heard 100) (heard 100) (heard 900)) ≡ corrected (pos 100) (pos 0) Kept)
+    × (forwarded wall (stamps 2 (heard 200) (heard 100) (heard 100) (heard 900)) ≡ corrected (pos 136) (pos 64) Late)
+    × (forwarded wall (stamps 2 (heard 63) (heard 100) (heard 100) (heard 0)) ≡ corrected (pos 64) (negsuc 0) Early)
+    × (forwarded wall (stamps 2 (heard 220) (heard 300) (heard 100) (heard 0)) ≡ corrected (pos 208) (pos 12) Middle)
+    × (forwarded wall (stamps 3 (heard 110) (heard 50) (heard 100) (heard 0)) ≡ corrected (pos 86) (pos 24) Back)
+    × (forwarded wall (stamps 2 (silent 0) (heard 100) (heard 130) (heard 900)) ≡ uncorrected (pos 166) Late)
+    × (forwarded wall (stamps 3 (silent 0) (heard 100) (heard 120) (heard 130)) ≡ uncorrected (pos 166) Late)
+    × (forwarded wall (stamps 2 (heard 50) (silent 0) (heard 100) (heard 0)) ≡ corrected (pos 64) (negsuc 13) Early)
+    × (forwarded wall (stamps 1 (heard 100) (heard 100) (heard 100) (heard 100)) ≡ Err why.Neighbours)
+    × (forwarded wall (stamps 2 (heard (2 ^ 41)) (heard 100) (heard 100) (heard 100)) ≡ Err why.Stamp)
+    × (forwarded wall (stamps 2 (silent 0) (silent 0) (heard 100) (heard 100)) ≡ Err why.Silences)
 
 -- §6.3 P and the correction at the ends of their ranges, with 3h 36
 unfoldable pub EndCases : Type 0
 EndCases =
     let most = 2 ^ 41 - 1 in
-    (forwarded wall (stamps 3 (heard most) (heard 0) (heard 0) (heard 0)) ≡ Corrected (pos 36) (pos 2199023255515) Late)
-    × (forwarded wall (stamps 3 (heard 0) (heard most) (heard most) (heard most)) ≡ Corrected (pos 2199023255515) (negsuc 2199023255514) Early)
-    × (forwarded wall (stamps 3 (silent 0) (heard most) (heard most) (heard most)) ≡ Uncorrected (pos 2199023255587) Late)
-    × (forwarded wall (stamps 3 (heard 0) (heard 0) (heard 0) (heard 0)) ≡ Corrected (pos 0) (pos 0) Kept)
+    (forwarded wall (stamps 3 (heard most) (heard 0) (heard 0) (heard 0)) ≡ corrected (pos 36) (pos 2199023255515) Late)
+    × (forwarded wall (stamps 3 (heard 0) (heard most) (heard most) (heard most)) ≡ corrected (pos 2199023255515) (negsuc 2199023255514) Early)
+    × (forwarded wall (stamps 3 (silent 0) (heard most) (heard most) (heard most)) ≡ uncorrected (pos 2199023255587) Late)
+    × (forwarded wall (stamps 3 (heard 0) (heard 0) (heard 0) (heard 0)) ≡ corrected (pos 0) (pos 0) Kept)

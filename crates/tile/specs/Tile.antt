@@ -1,18 +1,18 @@
--- One tile: what its stamps are, the numbers 11 to 13, and its answer. Assumes nothing.
-use Rattle.std.specs.Prelude.{Bool, true, false, cond, not, ◌&&◌, ◌||◌, List, [], ◌∷◌, map, ◌≡◌, ℕ, zero, suc, ◌+◌, ◌≤◌, ltb, eqb, ℤ, pos, get_or, take}
-use Rattle.std.proofs.Math.Option.{Option, none, some}
+-- One tile: what its stamps are, the refusals 11 to 13, and its answer. Assumes nothing.
+use Rattle.std.specs.Prelude.{Bool, true, false, cond, not, ◌&&◌, ◌||◌, List, [], ◌∷◌, map, ◌≡◌, ℕ, zero, suc, ◌+◌, ◌≤◌, ltb, ℤ, pos, get_or, take, Option, Some, None, Result, Ok, Err}
 use Rattle.std.specs.Int.Signed.{lt_z}
-use Rattle.settings.specs.Refusal.{Test, first, ◌when◌, outside, any_below}
-use Rattle.settings.specs.Settings.{step_of, settings_refusal}
+use Rattle.settings.specs.Refusal.{Test, first, ◌when◌, or_else, refused, answer, outside, any_below}
+use Rattle.settings.specs.Settings.{step_of, settings_cause}
 use Rattle.rule.specs.Signed.{natural}
 use Rattle.rule.specs.Stamp.{Stamp, heard, silent, earliest, latest, latest_stamp}
 use Rattle.rule.specs.Forward.{P, correction}
 use Rattle.rule.specs.Letter.{letter}
 use Rattle.settings.specs.declared.Settings.{Settings}
+use Rattle.settings.specs.declared.refusal.Refusal.{Refusal}
+use Rattle.settings.specs.declared.refusal.Refusal.TheVariants as why
 use Rattle.rule.specs.declared.letter.Letter.{Letter}
 use Rattle.tile.specs.declared.Stamps.{Stamps}
 use Rattle.tile.specs.declared.Forwarded.{Forwarded}
-use Rattle.tile.specs.declared.Forwarded.TheVariants.{Corrected, Uncorrected, Refused}
 
 -- §6.1 whether a place is marked silent; place 0 is own's
 unfoldable pub silent_at : Stamps → (place : ℕ) → Bool
@@ -63,24 +63,25 @@ silences x (suc n) = silences x n + count_silent (silent_at x n)
 -- §6.2 12 and 13, of own's place and as many neighbours' as the count says
 unfoldable pub stamp_tests : Stamps → List Test
 stamp_tests x =
-    12 when any_below (suc x.count) (late_at x)
-    ∷ 13 when ltb 1 (silences x (suc x.count))
+    why.Stamp when any_below (suc x.count) (late_at x)
+    ∷ why.Silences when ltb 1 (silences x (suc x.count))
     ∷ []
 
--- §6.2 12 or 13, 0 where neither applies
-unfoldable pub stamp_refusal : Stamps → ℕ
-stamp_refusal x = first (stamp_tests x)
+-- §6.2 12 or 13, where one applies
+unfoldable pub stamp_cause : Stamps → Option Refusal
+stamp_cause x = first (stamp_tests x)
 
--- §6.2 the settings' number, then 11, 12 and 13
-unfoldable pub tile_tests : Settings → Stamps → List Test
-tile_tests s x =
-    settings_refusal s when not (eqb (settings_refusal s) 0)
-    ∷ 11 when outside 2 3 x.count
-    ∷ stamp_tests x
+-- §6.2 11, then 12 and 13
+unfoldable pub tile_tests : Stamps → List Test
+tile_tests x = why.Neighbours when outside 2 3 x.count ∷ stamp_tests x
+
+-- §6.2 why a tile is turned away, where it is: the settings' refusal comes first
+unfoldable pub tile_cause : Settings → Stamps → Option Refusal
+tile_cause s x = or_else (settings_cause s) (first (tile_tests x))
 
 -- §6.2 the number under which a tile is turned away, 0 where it is accepted
 unfoldable pub tile_refusal : Settings → Stamps → ℕ
-tile_refusal s x = first (tile_tests s x)
+tile_refusal s x = refused (tile_cause s x)
 
 -- §6.2 what a tile's stamps keep once 11 and 12 are past
 pub record Readable (x : Stamps) : Type 0 where
@@ -88,44 +89,30 @@ pub record Readable (x : Stamps) : Type 0 where
   pub count_most : x.count ≤ 3
   pub on_time : any_below (suc x.count) (late_at x) ≡ false
 
--- §6.3 P with a correction, or with none; §E3.3 and the letter
-unfoldable pub answer : ℤ → Option ℤ → Letter → Forwarded
-answer p (some c) x = Corrected p c x
-answer p none x = Uncorrected p x
-
--- §6.3 P, the correction and the letter that the rule gives for own, min and max
+-- §6.3 P, the correction and, by §E3.3, the letter that the rule gives for own, min and max
 unfoldable pub answered : Settings → (own least most : Stamp) → Forwarded
 answered s own l m =
     let h = s.unit in
     let j = step_of s in
-    answer (P h j own l m) (correction h j own l m) (letter h j own l m)
+    record { p = P h j own l m; correction = correction h j own l m; letter = letter h j own l m }
 
--- §6.3 what the rule gives for a tile's stamps, or its number
-unfoldable pub forwarded : Settings → Stamps → Forwarded
+-- §6.3 what the rule gives for a tile's stamps, or why it is turned away
+unfoldable pub forwarded : Settings → Stamps → Result Forwarded Refusal
 forwarded s x =
     let ns = neighbour_stamps x in
-    cond (eqb (tile_refusal s x) 0) (answered s (own_stamp x) (earliest ns) (latest ns)) (Refused (tile_refusal s x))
-
--- §13.3 the number of an answer, 0 where it has P
-unfoldable pub number_of : Forwarded → ℕ
-number_of (Corrected p c x) = 0
-number_of (Uncorrected p x) = 0
-number_of (Refused n) = n
+    answer (tile_cause s x) (answered s (own_stamp x) (earliest ns) (latest ns))
 
 -- §13.3 P of an answer, where it has one
-unfoldable pub P_of : Forwarded → Option ℤ
-P_of (Corrected p c x) = some p
-P_of (Uncorrected p x) = some p
-P_of (Refused n) = none
+unfoldable pub P_of : Result Forwarded Refusal → Option ℤ
+P_of (Ok f) = Some f.p
+P_of (Err r) = None
 
 -- §13.3 the correction of an answer, where it has one
-unfoldable pub correction_of : Forwarded → Option ℤ
-correction_of (Corrected p c x) = some c
-correction_of (Uncorrected p x) = none
-correction_of (Refused n) = none
+unfoldable pub correction_of : Result Forwarded Refusal → Option ℤ
+correction_of (Ok f) = f.correction
+correction_of (Err r) = None
 
 -- §E3.3 the letter of an answer, where it has P
-unfoldable pub letter_of : Forwarded → Option Letter
-letter_of (Corrected p c x) = some x
-letter_of (Uncorrected p x) = some x
-letter_of (Refused n) = none
+unfoldable pub letter_of : Result Forwarded Refusal → Option Letter
+letter_of (Ok f) = Some f.letter
+letter_of (Err r) = None

@@ -10,7 +10,7 @@ ghost use Rattle.lines.specs.Line.{space, line_end};
 ghost use Rattle.lines.specs.Row.{each_below, tile_text};
 ghost use Rattle.tables.specs.Word.{bytes, Tables};
 ghost use Rattle.tile_lines.specs.Near.{Serves, Right};
-ghost use Rattle.tile_lines.specs.Tile.{Coded, tile_after, code as Word·code};
+ghost use Rattle.tile_lines.specs.Tile.{Coded, tile_after, code as code_of};
 ghost use Rattle.columns.specs.Wrote.{Wrote};
 
 use crate::near::Near;
@@ -50,23 +50,20 @@ pub fn tiles(
     let head = Head::of(116, row);
     let mut near = Near::none();
     let mut end = at;
-    let mut c = 0;
-    while c < width {
+    for c in 0..width {
         let faulty = marked(marks, c);
         let time = times[c];
         let letter = letters[c];
         codes[c] = code(faulty, time);
         let written = tile(tables, head, near, c, faulty, time, letter, out, end);
-        let next = written.near;
-        near = next;
+        near = written.near;
         end = written.end;
-        c += 1;
     }
     end
 }
 
 fn code(faulty: bool, time: u64) -> u64
-    ensures { result ≡ Word·code faulty time }
+    ensures { result ≡ code_of faulty time }
 {
     if faulty {
         return FAULTY;

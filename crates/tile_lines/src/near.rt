@@ -39,10 +39,8 @@ impl Near {
         requires { Right self }
         ensures { Right result × ((result.span ≡ 0) ⊎ Serves result time) }
     {
-        if self.low <= time {
-            if time - self.low < self.span {
-                return self;
-            }
+        if self.low <= time && time - self.low < self.span {
+            return self;
         }
         if time < 100_000_000 {
             return few_digits(time);
@@ -81,12 +79,9 @@ fn few_digits(time: u64) -> Near
             digits: 1,
         };
     }
-    let mut low: u64 = 10;
-    let mut digits: usize = 2;
-    while low * 10 <= time {
-        low = low * 10;
-        digits += 1;
-    }
+    let power = time.ilog10();
+    let low = 10u64.pow(power);
+    let digits = power as usize + 1;
     Near {
         low,
         span: low * 9,

@@ -10,13 +10,12 @@ ghost use Rattle.stages.specs.Fit.{width_of, wall_fits};
 ghost use Rattle.steps.specs.Step.{step_of};
 ghost use Rattle.steps.specs.Take.{taken_of};
 ghost use Rattle.show.specs.Text.{texts_of};
-ghost use Rattle.wall.specs.Operation.{replaced, Stepping};
+ghost use Rattle.wall.specs.Operation.{accepted_row, Stepping};
 
 use lines::ROOM;
 use show::show;
 use stages::{Wall, fits};
-use steps::Taken;
-use steps::rows::copy;
+use steps::RefusedAt;
 
 // The wall as a step leaves it, and where the text ends.
 #[derive(Clone, Copy)]
@@ -25,15 +24,9 @@ pub struct Went {
     pub end: usize,
 }
 
-#[derive(Clone, Copy)]
-pub enum Answer {
-    Went(Went),
-    // What was lent does not fit the wall; nothing has changed.
-    Unfit,
-}
-
 // Takes the part of the file that is due. The row is the wall's, W times and W letters, and the next takes
-// its place; the text goes into `out` from `at` on.
+// its place; the text goes into `out` from `at` on. None: what was lent does not fit the wall, and nothing has
+// changed.
 pub fn step(
     wall: Wall,
     part: &[u8],
@@ -41,11 +34,11 @@ pub fn step(
     letters: &mut [u8],
     out: &mut [u8],
     at: usize,
-) -> Answer
+) -> Option<Went>
     ensures { Stepping wall part.now (pulses row.old letters.old) out.old at result (pulses row.new letters.new) out.new }
 {
     if !has_room(out.len(), at) {
-        return Answer::Unfit;
+        return None;
     }
     let width = wall.width();
     let mut next = time_space();
@@ -72,29 +65,31 @@ fn step_in(
     letters: &mut [u8],
     out: &mut [u8],
     at: usize,
-) -> Answer
+) -> Option<Went>
     requires { (length next.old ≡ width_of wall) × (length next_letters.old ≡ width_of wall) × (at + step_room ≤ length out.old) }
     ensures { Stepping wall part.now (pulses row.old letters.old) out.old at result (pulses row.new letters.new) out.new }
 {
     if !fits(wall, letters.len()) {
-        return Answer::Unfit;
+        return None;
     }
-    match steps::take(wall, part, row, next, next_letters) {
-        steps::Answer::Taken(taken) => {
-            let after = taken.wall;
-            let number = taken.number;
-            let end = text(wall, taken, part, row, letters, out, at);
-            replace(wall, number, next, next_letters, row, letters);
-            Answer::Went(Went { wall: after, end })
+    let taken = steps::take(wall, part, row, next, next_letters)?;
+    let end = text(wall, taken, part, row, letters, out, at);
+    match taken {
+        Ok(after) => {
+            replace(wall, next, next_letters, row, letters);
+            Some(Went { wall: after, end })
         }
-        steps::Answer::Unfit => Answer::Unfit,
+        Err(_) => Some(Went {
+            wall: Wall::Over,
+            end,
+        }),
     }
 }
 
 // Writes the text of a step that was taken; answers where it ends.
 fn text(
     wall: Wall,
-    taken: Taken,
+    taken: Result<Wall, RefusedAt>,
     part: &[u8],
     row: &[u64],
     letters: &[u8],
@@ -109,26 +104,16 @@ fn text(
     show(&tables, wall, taken, part, row, letters, out, at)
 }
 
-// Where the part was accepted, the next row takes the place of the last: row 0, which has no letters, or a later row.
-fn replace(
-    wall: Wall,
-    number: u32,
-    next: &[u64],
-    next_letters: &[u8],
-    row: &mut [u64],
-    letters: &mut [u8],
-)
+// The next row takes the place of the last: row 0, which has no letters, or a later row.
+fn replace(wall: Wall, next: &[u64], next_letters: &[u8], row: &mut [u64], letters: &mut [u8])
     requires { (wall_fits wall (length row.old) ≡ true) × (wall_fits wall (length letters.old) ≡ true) × (length next.now ≡ width_of wall) × (length next_letters.now ≡ width_of wall) }
-    ensures { pulses row.new letters.new ≡ replaced wall number (pulses next.now next_letters.now) (pulses row.old letters.old) }
+    ensures { pulses row.new letters.new ≡ accepted_row wall (pulses next.now next_letters.now) (pulses row.old letters.old) }
 {
-    if number != 0 {
-        return;
-    }
     match wall {
         Wall::New => {}
-        Wall::Start(_) => copy(next, row),
+        Wall::Start(_) => row.copy_from_slice(next),
         Wall::Row(_) => {
-            copy(next, row);
+            row.copy_from_slice(next);
             letters.copy_from_slice(next_letters);
         }
         Wall::End(_) => {}

@@ -4,45 +4,30 @@
 
 use arguments::WORD_MOST;
 use asked::Asked;
-use source::Noted;
+use source::Failure;
 use std::env::Env;
 use std::io::Print;
-use stream::Ended;
 
 fn main(rt: HostRuntime) {
-    let count = arguments::word_count(&rt);
-    let mut i = 1;
-    while i < count {
+    for i in 1..arguments::word_count(&rt) {
         case(&rt, i);
-        i += 1;
     }
 }
 
 fn case(rt: &HostRuntime, i: usize) {
     let mut buffer = [0u8; WORD_MOST];
-    let n = match rt.arg(i, &mut buffer) {
-        Ok(n) => n,
-        Err(_) => 0,
-    };
+    let n = rt.arg(i, &mut buffer).unwrap_or(0);
     let name = &buffer[..n];
     let _ = Print::write_all(rt, name);
     let _ = Print::write_all(rt, b"\n");
     let file = match source::open_read(rt, name) {
         Ok(file) => file,
-        Err(e) => {
-            source::say_failed(rt, name, e);
-            return;
-        }
+        Err(e) => return source::say_failed(rt, name, e),
     };
-    let mut from = Noted::new(file);
-    let mut to = Noted::new(rt.stdout());
     let mut tables = tables::space();
     tables::fill(&mut tables);
-    let outcome = pass::run(&mut from, &mut to, Asked::Lines, &tables);
-    let ended = outcome.ended;
-    match ended {
-        Ended::Done => {}
-        Ended::ReadFailed => source::say_failed(rt, name, from.why()),
-        Ended::WriteFailed => source::say_failed(rt, name, to.why()),
+    match source::write_asked(rt, file, Asked::Lines, &tables) {
+        Ok(()) => {}
+        Err(Failure::Reading(why) | Failure::Writing(why)) => source::say_failed(rt, name, why),
     }
 }

@@ -1,32 +1,30 @@
 // Reads a wall file and writes its rows, or its refusal, to standard output.
 #![tactic(auto)]
 
+use arguments::Limits;
 use asked::Asked;
-use source::Noted;
-use stream::Ended;
+use source::Program;
+
+const WALLRUN: Program<'static> = Program {
+    name: "wallrun",
+    needed: "",
+    usage: "usage: wallrun [FILE]\n",
+    about: "Reads a wall file, or standard input, and writes the pulse times and the seams\nof its rows to standard output. The manual is docs/man/wallrun.1.\n",
+};
 
 fn main(rt: HostRuntime) {
-    let mut numbers = [0u64; 0];
-    let from = source::of_call(
+    let call = arguments::read(
         &rt,
-        arguments::read(&rt, 0, 0, 0, &mut numbers),
-        b"wallrun",
-        b"",
-        b"usage: wallrun [FILE]\n",
-        b"Reads a wall file, or standard input, and writes the pulse times and the seams\nof its rows to standard output. The manual is docs/man/wallrun.1.\n",
+        0,
+        Limits {
+            least: 0,
+            largest: 0,
+        },
+        &mut [],
     );
-    let Some(from) = from else {
-        return;
-    };
-    let mut from = Noted::new(from);
-    let mut to = Noted::new(rt.stdout());
-    let mut tables = tables::space();
-    tables::fill(&mut tables);
-    let outcome = pass::run(&mut from, &mut to, Asked::Lines, &tables);
-    let ended = outcome.ended;
-    match ended {
-        Ended::Done => {}
-        Ended::ReadFailed => source::say_failed(&rt, b"wallrun: reading", from.why()),
-        Ended::WriteFailed => source::say_failed(&rt, b"wallrun: writing", to.why()),
+    if let Some(from) = WALLRUN.source(&rt, call) {
+        let mut tables = tables::space();
+        tables::fill(&mut tables);
+        WALLRUN.run(&rt, from, Asked::Lines, &tables);
     }
 }

@@ -3,25 +3,29 @@
 #![tactic(auto)]
 
 ghost use Rattle.std.specs.Prelude.{◌≡◌};
+ghost use Rattle.settings.specs.Refusal.{number_in};
 ghost use Rattle.waves.specs.Wave.{wave};
-ghost use Rattle.wave_calls.specs.Answers.{start_number, start_left, wave_number, wave_left, wave_side, wave_halves, extremes_number, ask_number, extremes_half_ticks, extremes_ticks, half_ticks_left, ticks_left};
+ghost use Rattle.wave_calls.specs.Answers.{start_number, start_left, wave_number, wave_left, wave_side, wave_halves, ask_number, extremes_half_ticks, extremes_ticks, half_ticks_left, ticks_left};
 
 use layout::UNFIT;
+use settings::refusal::Refusal;
 use waves::{Extremes, Waves};
 
+#[tactic(auto, unfolding(settings::specs::Refusal::answer, calls::specs::Answers::left, crate::specs::Answers::start_number, crate::specs::Answers::start_left))]
 pub fn start(n: u64, words: &mut [u64; 66]) -> u32
     ensures number { result ≡ start_number n }
     ensures words { words.new ≡ start_left n words.old }
 {
     let started = Waves::start(n);
-    let number = started.number;
-    if number != 0 {
-        return number;
+    match started.refusal {
+        Some(refusal) => refusal.number(),
+        None => {
+            let waves = started.waves;
+            let first = waves.words;
+            *words = first;
+            0
+        }
     }
-    let waves = started.waves;
-    let first = waves.words;
-    *words = first;
-    0
 }
 
 pub fn hand_in(
@@ -44,8 +48,7 @@ pub fn hand_in(
         let moved = handed.waves;
         let after = moved.words;
         *words = after;
-        let seam = handed.seam;
-        return calls::seam_left(seam, side, halves);
+        return calls::seam_left(handed.seam, side, halves);
     }
     UNFIT
 }
@@ -63,17 +66,22 @@ pub fn ask(words: &[u64; 66], half_ticks: &mut [i64; 2], ticks: &mut [f64; 2]) -
 }
 
 // The largest and the smallest, in half ticks and in ticks.
-fn extremes_left(extremes: Extremes, half_ticks: &mut [i64; 2], ticks: &mut [f64; 2]) -> u32
-    ensures number { result ≡ extremes_number extremes }
+#[tactic(auto, unfolding(settings::specs::Refusal::number_in, calls::specs::Answers::left, crate::specs::Answers::extremes_half_ticks, crate::specs::Answers::extremes_ticks))]
+fn extremes_left(
+    extremes: Result<Extremes, Refusal>,
+    half_ticks: &mut [i64; 2],
+    ticks: &mut [f64; 2],
+) -> u32
+    ensures number { result ≡ number_in extremes }
     ensures half_ticks { half_ticks.new ≡ extremes_half_ticks extremes half_ticks.old }
     ensures ticks { ticks.new ≡ extremes_ticks extremes ticks.old }
 {
     match extremes {
-        Extremes::Of { largest, smallest } => {
+        Ok(Extremes { largest, smallest }) => {
             *half_ticks = [largest.half_ticks, smallest.half_ticks];
             *ticks = [largest.ticks, smallest.ticks];
             0
         }
-        Extremes::Refused(number) => number,
+        Err(refusal) => refusal.number(),
     }
 }

@@ -13,12 +13,14 @@ use borrow.Author.Tests.{eq-eqb, ne_eqb, le-ltb}
 use Rattle.settings.proofs.Laws.Refusal.{within, below, above}
 use Rattle.settings.specs.Refusal.{outside}
 use Rattle.settings.proofs.Laws.Cases.{by_order, by_zero}
-use Rattle.seam.specs.Seam.{half, halves, number_of}
-use Rattle.seam.specs.declared.Seam.{Seam}
-use Rattle.seam.specs.declared.Seam.TheVariants as seam
+use Rattle.std.specs.Prelude.{Result, Ok, Err, Some, None}
+use Rattle.settings.specs.declared.refusal.Refusal.{Refusal}
+use Rattle.settings.specs.declared.refusal.Refusal.TheVariants as refusal
+use Rattle.settings.specs.declared.refusal.Refusal.TheVariants.{NoGap}
+use Rattle.seam.specs.Seam.{half, halves}
 use Rattle.seam.proofs.Laws.{half_exact}
-use Rattle.waves.specs.Wave.{Wave, answer, is_refused, refused, gap_of, where_closed}
-use Rattle.waves.specs.Reading.{last, half_gap, extremes}
+use Rattle.waves.specs.Wave.{Wave, answer, refused, gap_of, where_closed}
+use Rattle.waves.specs.Reading.{last, half_gap, between, extremes}
 use Rattle.waves.specs.State.{fits, blank, started, put, word, handed, no_gap, signed, gaps_at, places, asked}
 use Rattle.waves.specs.Ends.{half_gap_at, ends_of, ToldWords, told}
 use Rattle.waves.specs.Program.{Call, Calls, done, hand_in, ask, Read, CallsRead, CallsFit}
@@ -26,7 +28,7 @@ use Rattle.waves.specs.Promises.{StartNumbers, RefusedKept, LastExact, ExtremesR
 use Rattle.waves.specs.declared.Waves.{Waves}
 use Rattle.waves.specs.declared.Started.{Started}
 use Rattle.waves.specs.declared.half_gap.HalfGap.{HalfGap}
-use Rattle.waves.specs.declared.Extremes.TheVariants.{Of, Refused}
+use Rattle.waves.specs.declared.Extremes.{Extremes}
 use Rattle.waves.specs.declared.ends.Ends.{Ends}
 use Rattle.waves.proofs.Laws.Ends.{signed_small, signed_least, signed_most, ends_told, told_words}
 use Rattle.waves.proofs.Laws.Wave.{closed_halves}
@@ -53,14 +55,14 @@ fit_from {s} n ws h done = holds_fit n ws s h
 fit_from {s} n ws h (hand_in w r e c) = fit_from n (ws ++ w ∷ []) (rw e (holds_more n ws s w h)) c
 fit_from n ws h (ask a e c) = fit_from n ws h c
 
-started_number : (n : ℕ) → outside 1 64 n ≡ true → (started n).number ≡ 51
+turned_away : (n : ℕ) → outside 1 64 n ≡ true → (started n).refusal ≡ Some refusal.Waves
 unfolding started
-started_number n e = rw e
+turned_away n e = rw e
 
 -- what a start that is accepted leaves
-module _ (n : ℕ) (r : Started) (e : r ≡ started n) (z : r.number ≡ 0) where
+module _ (n : ℕ) (r : Started) (e : r ≡ started n) (z : r.refusal ≡ None) where
   not_outside : outside 1 64 n ≡ true → Holds n [] r.waves
-  not_outside o = let never : ⊥ = omega (arith, z, ap (λ (x : Started). x.number) e, started_number n o) in absurd never
+  not_outside o = let never : ⊥ = cc (z, ap (λ (x : Started). x.refusal) e, turned_away n o) in absurd never
 
   accepted : Holds n [] r.waves
   accepted =
@@ -84,16 +86,9 @@ last_exact A xs ys n =
     let before : length (xs ++ ys) - length ys ≡ length xs = simp length-append (omega arith) in
     (rw before (drop-append_seam xs ys), λ i. let none_before : length xs - n ≡ 0 = omega arith in rw none_before)
 
--- 31 is a refusal
-is_31 : (a : Seam) → number_of a ≡ 31 → is_refused a ≡ true
-unfolding is_refused number_of
-is_31 (seam.Closed h) e = let never : ⊥ = omega arith in absurd never
-is_31 (seam.Open o) e = let never : ⊥ = omega arith in absurd never
-is_31 (seam.Refused n) e = refl
-
 pub refused_kept : RefusedKept
 unfolding RefusedKept handed refused
-refused_kept s w e = rw (is_31 (answer w) e)
+refused_kept s w e = rw e
 
 unmoved : (b : Bool) (s : Waves) (x : ℕ) → fits s ≡ false → cond b s (put s x) ≡ s
 unfolding put
@@ -123,14 +118,15 @@ exact_at : (x : ℕ) → no_gap x ≡ false → Exact (half_gap_at x)
 unfolding half_gap_at half_gap
 exact_at x n = record { at_least = signed_least x n; at_most = signed_most x n; value = half_value (signed x) (signed_small x n) }
 
-exact_told : (e : Ends) (a b : HalfGap) → ToldWords e → told e ≡ Of a b → Exact a × Exact b
-unfolding told ToldWords
+exact_told : (e : Ends) (a b : HalfGap) → ToldWords e → told e ≡ Ok (between a b) → Exact a × Exact b
+unfolding told between ToldWords
 exact_told e a b w p = by_zero e.largest
-    (λ z. let q : Refused 52 ≡ Of a b = rw (eq-eqb e.largest 0 z) at p in let y : ◌≡◌ {A = ℕ} 0 1 = cc in let never : ⊥ = omega arith in absurd never)
+    (λ z. let q : ◌≡◌ {A = Result Extremes Refusal} (Err NoGap) (Ok (between a b)) = rw (eq-eqb e.largest 0 z) at p in let never : ⊥ = cc in absurd never)
     (λ z.
-    let q : Of (half_gap_at e.largest) (half_gap_at e.smallest) ≡ Of a b = rw (ne_eqb e.largest 0 z) at p in
-    let l : half_gap_at e.largest ≡ a = cc in
-    let s : half_gap_at e.smallest ≡ b = cc in
+    let q : ◌≡◌ {A = Result Extremes Refusal} (Ok (between (half_gap_at e.largest) (half_gap_at e.smallest))) (Ok (between a b)) = rw (ne_eqb e.largest 0 z) at p in
+    let m : between (half_gap_at e.largest) (half_gap_at e.smallest) ≡ between a b = cc in
+    let l : half_gap_at e.largest ≡ a = ap (λ (x : Extremes). x.largest) m in
+    let s : half_gap_at e.smallest ≡ b = ap (λ (x : Extremes). x.smallest) m in
     (rw l at (exact_at e.largest (w z).0), rw s at (exact_at e.smallest (w z).1)))
 
 pub answers_exact : AnswersExact

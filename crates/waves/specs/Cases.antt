@@ -1,13 +1,14 @@
 -- Waves at numbers. Each statement is proved in proofs/Cases.antt, under its name in small letters. Assumes nothing.
-use Rattle.std.specs.Prelude.{◌≡◌, true, false, List, [], ◌∷◌, ◌++◌, map, ℕ, ℤ, pos, negsuc, replicate, set, take}
+use Rattle.std.specs.Prelude.{◌≡◌, true, false, List, [], ◌∷◌, ◌++◌, map, ℕ, ℤ, pos, negsuc, replicate, set, take, Ok, Err, Some, None}
 use Rattle.std.specs.Float.{binary64}
 use Rattle.std.specs.Float.Ieee.{to_bits}
+use Rattle.settings.specs.declared.refusal.Refusal.TheVariants as refusal
+use Rattle.settings.specs.declared.refusal.Refusal.TheVariants.{NoGap}
 use Rattle.waves.specs.Wave.{Wave, wave, answer}
-use Rattle.waves.specs.Reading.{half_gap, reading}
+use Rattle.waves.specs.Reading.{half_gap, between, reading}
 use Rattle.waves.specs.State.{fits, started, asked}
 use Rattle.waves.specs.Program.{Call, hands_in, asks, Calls}
 use Rattle.waves.specs.declared.Waves.{Waves}
-use Rattle.waves.specs.declared.Extremes.TheVariants.{Of, Refused}
 
 -- §E1.2 a wave of two correct tiles
 unfoldable pub closed : (left right : ℕ) → Wave
@@ -15,11 +16,11 @@ closed l r = wave l false r false
 
 -- §E1.3 the reading has these half gaps, in half ticks
 unfoldable pub Reads : (n : ℕ) → List Wave → (largest smallest : ℤ) → Type 0
-Reads n ws a b = reading n ws ≡ Of (half_gap a) (half_gap b)
+Reads n ws a b = reading n ws ≡ Ok (between (half_gap a) (half_gap b))
 
 -- §E1.1 51 below 1 and above 64
 unfoldable pub StartCases : Type 0
-StartCases = map (λ n. (started n).number) (0 ∷ 1 ∷ 64 ∷ 65 ∷ []) ≡ 51 ∷ 0 ∷ 0 ∷ 51 ∷ []
+StartCases = map (λ n. (started n).refusal) (0 ∷ 1 ∷ 64 ∷ 65 ∷ []) ≡ Some refusal.Waves ∷ None ∷ None ∷ Some refusal.Waves ∷ []
 
 -- §E1.2 with n 1, 2 and 64: exactly n waves, and one more, after which the first no longer counts
 unfoldable pub WindowCases : Type 0
@@ -38,9 +39,9 @@ OpenCases =
     Reads 2 (closed 0 9 ∷ wave 3 true 4 false ∷ []) (pos 9) (pos 9)
     × Reads 2 (wave 3 false 4 true ∷ closed 0 9 ∷ []) (pos 9) (pos 9)
     × Reads 2 (closed 0 9 ∷ closed 0 1 ∷ wave 3 false 4 true ∷ []) (pos 1) (pos 1)
-    × (reading 1 (closed 0 9 ∷ wave 18446744073709551615 true 4 false ∷ []) ≡ Refused 52)
-    × (reading 3 (wave 3 true 4 false ∷ wave 3 false 18446744073709551615 true ∷ wave 3 true 4 true ∷ []) ≡ Refused 52)
-    × (reading 64 [] ≡ Refused 52)
+    × (reading 1 (closed 0 9 ∷ wave 18446744073709551615 true 4 false ∷ []) ≡ Err NoGap)
+    × (reading 3 (wave 3 true 4 false ∷ wave 3 false 18446744073709551615 true ∷ wave 3 true 4 true ∷ []) ≡ Err NoGap)
+    × (reading 64 [] ≡ Err NoGap)
 
 -- §E1.2 31 between closed ones, which stay: the left late, the right late, either beside a faulty tile
 unfoldable pub RefusedCases : Type 0
@@ -80,22 +81,22 @@ FitCases =
 -- §E1.6 words of gaps are 1 to 2^42 - 1, and 2^41 is a gap of 0; every other gives no number, and so does a place past n
 unfoldable pub WordCases : Type 0
 WordCases =
-    (asked (state 3 0 (1 ∷ 2199023255552 ∷ 4398046511103 ∷ [])) ≡ Of (half_gap (pos 2199023255551)) (half_gap (negsuc 2199023255550)))
-    × (asked (state 3 0 (0 ∷ 2199023255552 ∷ 4398046511104 ∷ [])) ≡ Of (half_gap (pos 0)) (half_gap (pos 0)))
-    × (asked (state 2 1 (0 ∷ 18446744073709551615 ∷ 2199023255552 ∷ [])) ≡ Refused 52)
-    × (asked (state 65 0 (2199023255552 ∷ [])) ≡ Refused 52)
+    (asked (state 3 0 (1 ∷ 2199023255552 ∷ 4398046511103 ∷ [])) ≡ Ok (between (half_gap (pos 2199023255551)) (half_gap (negsuc 2199023255550))))
+    × (asked (state 3 0 (0 ∷ 2199023255552 ∷ 4398046511104 ∷ [])) ≡ Ok (between (half_gap (pos 0)) (half_gap (pos 0))))
+    × (asked (state 2 1 (0 ∷ 18446744073709551615 ∷ 2199023255552 ∷ [])) ≡ Err NoGap)
+    × (asked (state 65 0 (2199023255552 ∷ [])) ≡ Err NoGap)
 
 -- §E1.5 calls after a start: a question before any wave, a closed wave, one turned away, an open one, and questions between them
 unfoldable pub some_calls : List Call
 some_calls =
-    asks (Refused 52)
+    asks (Err NoGap)
     ∷ hands_in (closed 0 9) (answer (closed 0 9))
     ∷ hands_in (closed 2199023255552 7) (answer (closed 2199023255552 7))
-    ∷ asks (Of (half_gap (pos 9)) (half_gap (pos 9)))
+    ∷ asks (Ok (between (half_gap (pos 9)) (half_gap (pos 9))))
     ∷ hands_in (wave 3 true 4 false) (answer (wave 3 true 4 false))
-    ∷ asks (Of (half_gap (pos 9)) (half_gap (pos 9)))
+    ∷ asks (Ok (between (half_gap (pos 9)) (half_gap (pos 9))))
     ∷ hands_in (closed 3 1) (answer (closed 3 1))
-    ∷ asks (Of (half_gap (negsuc 1)) (half_gap (negsuc 1)))
+    ∷ asks (Ok (between (half_gap (negsuc 1)) (half_gap (negsuc 1))))
     ∷ []
 
 -- §E1.5 there are such calls, and this is the state after them

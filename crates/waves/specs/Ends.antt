@@ -1,10 +1,11 @@
 -- The largest and the smallest gap of some words, as the question finds them in one pass. Assumes nothing.
-use Rattle.std.specs.Prelude.{false, cond, List, [], ◌∷◌, ◌≡◌, ℕ, suc, min, max, eqb}
-use Rattle.waves.specs.Reading.{half_gap}
+use Rattle.std.specs.Prelude.{false, cond, List, [], ◌∷◌, ◌≡◌, ℕ, suc, min, max, eqb, Result, Ok, Err}
+use Rattle.settings.specs.declared.refusal.Refusal.{Refusal}
+use Rattle.settings.specs.declared.refusal.Refusal.TheVariants.{NoGap}
+use Rattle.waves.specs.Reading.{half_gap, between}
 use Rattle.waves.specs.State.{most, no_gap, signed}
 use Rattle.waves.specs.declared.half_gap.HalfGap.{HalfGap}
 use Rattle.waves.specs.declared.Extremes.{Extremes}
-use Rattle.waves.specs.declared.Extremes.TheVariants.{Of, Refused}
 use Rattle.waves.specs.declared.ends.Ends.{Ends}
 
 -- §E1.6 the half gap of a word
@@ -25,5 +26,5 @@ unfoldable pub ToldWords : Ends → Type 0
 ToldWords e = (e.largest ≡ 0 → ⊥) → (no_gap e.largest ≡ false) × (no_gap e.smallest ≡ false)
 
 -- §E1.6 the answer that they make
-unfoldable pub told : Ends → Extremes
-told e = cond (eqb e.largest 0) (Refused 52) (Of (half_gap_at e.largest) (half_gap_at e.smallest))
+unfoldable pub told : Ends → Result Extremes Refusal
+told e = cond (eqb e.largest 0) (Err NoGap) (Ok (between (half_gap_at e.largest) (half_gap_at e.smallest)))

@@ -1,13 +1,14 @@
 -- What a full reading of a list of waves gives: of the last n that were not turned away, the largest and the smallest half
 -- gap of the closed ones. Assumes nothing.
-use Rattle.std.specs.Prelude.{cond, List, [], ◌∷◌, ℕ, ◌-◌, ℤ, length, drop}
+use Rattle.std.specs.Prelude.{cond, List, [], ◌∷◌, ℕ, ◌-◌, ℤ, length, drop, Result, Ok, Err}
 use Rattle.std.proofs.Math.Option.{Option, none, some}
+use Rattle.settings.specs.declared.refusal.Refusal.{Refusal}
+use Rattle.settings.specs.declared.refusal.Refusal.TheVariants.{NoGap}
 use Rattle.rule.specs.Signed.{larger, smaller}
 use Rattle.seam.specs.Seam.{half}
 use Rattle.waves.specs.Wave.{Wave, refused, gap_of}
 use Rattle.waves.specs.declared.half_gap.HalfGap.{HalfGap}
 use Rattle.waves.specs.declared.Extremes.{Extremes}
-use Rattle.waves.specs.declared.Extremes.TheVariants.{Of, Refused}
 
 -- §E1.2 the waves that take a place, in their order: all that are not turned away
 unfoldable pub taken : List Wave → List Wave
@@ -42,11 +43,15 @@ smallest z (y ∷ ys) = smaller z (smallest y ys)
 unfoldable pub half_gap : (gap : ℤ) → HalfGap
 half_gap z = record { half_ticks = z; ticks = half z }
 
+-- §E1.3 a largest half gap and a smallest
+unfoldable pub between : (largest smallest : HalfGap) → Extremes
+between a b = record { largest = a; smallest = b }
+
 -- §E1.3 the largest and the smallest half gap of some gaps, 52 of none
-unfoldable pub extremes : List ℤ → Extremes
-extremes [] = Refused 52
-extremes (z ∷ zs) = Of (half_gap (largest z zs)) (half_gap (smallest z zs))
+unfoldable pub extremes : List ℤ → Result Extremes Refusal
+extremes [] = Err NoGap
+extremes (z ∷ zs) = Ok (between (half_gap (largest z zs)) (half_gap (smallest z zs)))
 
 -- §E1.5 the full reading of all waves handed in
-unfoldable pub reading : (n : ℕ) → List Wave → Extremes
+unfoldable pub reading : (n : ℕ) → List Wave → Result Extremes Refusal
 reading n ws = extremes (gaps (last n (taken ws)))

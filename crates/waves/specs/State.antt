@@ -1,7 +1,9 @@
 -- The state as words, and what each operation makes of any. Assumes nothing.
-use Rattle.std.specs.Prelude.{Bool, cond, ◌&&◌, List, [], ◌∷◌, ◌++◌, ℕ, zero, suc, ◌+◌, ◌-◌, eqb, leb, ltb, ℤ, pos, ◌-ℤ◌, get_or, set, replicate}
+use Rattle.std.specs.Prelude.{Bool, cond, ◌&&◌, List, [], ◌∷◌, ◌++◌, ℕ, zero, suc, ◌+◌, ◌-◌, eqb, leb, ltb, ℤ, pos, ◌-ℤ◌, get_or, set, replicate, Result, Ok, Err, Some, None}
 use Rattle.std.proofs.Math.Option.{Option, none, some}
 use Rattle.settings.specs.Refusal.{outside}
+use Rattle.settings.specs.declared.refusal.Refusal.{Refusal}
+use Rattle.settings.specs.declared.refusal.Refusal.TheVariants as refusal
 use Rattle.seam.specs.declared.Seam.{Seam}
 use Rattle.seam.specs.declared.Seam.TheVariants as seam
 use Rattle.waves.specs.Wave.{Wave, answer, refused}
@@ -29,7 +31,7 @@ blank n = record { words = set (replicate 66 0) 64 n }
 
 -- §E1.1 n waves at most, 1 to 64, or 51 and a state without a place
 unfoldable pub started : (n : ℕ) → Started
-started n = cond (outside 1 64 n) (record { number = 51; waves = blank 0 }) (record { number = 0; waves = blank n })
+started n = cond (outside 1 64 n) (record { refusal = Some refusal.Waves; waves = blank 0 }) (record { refusal = None; waves = blank n })
 
 -- §E1.6 the word of a gap of 0
 abbrev pub level : ℕ
@@ -44,10 +46,10 @@ unfoldable pub word_of : (left right : ℕ) → ℕ
 word_of l r = level + r - l
 
 -- §E1.6 the word of a seam: that of its gap where it is closed, otherwise 0
-unfoldable pub seam_word : Seam → (left right : ℕ) → ℕ
-seam_word (seam.Closed h) l r = word_of l r
-seam_word (seam.Open s) l r = 0
-seam_word (seam.Refused n) l r = 0
+unfoldable pub seam_word : Result Seam Refusal → (left right : ℕ) → ℕ
+seam_word (Ok (seam.Closed h)) l r = word_of l r
+seam_word (Ok (seam.Open s)) l r = 0
+seam_word (Err why) l r = 0
 
 -- §E1.6 the word of a wave
 unfoldable pub word : Wave → ℕ
@@ -92,5 +94,5 @@ unfoldable pub places : Waves → List ℕ
 places s = cond (fits s) (front (size s) s.words) []
 
 -- §E1.3 the answer to the question, of any state
-unfoldable pub asked : Waves → Extremes
+unfoldable pub asked : Waves → Result Extremes Refusal
 asked s = extremes (gaps_at (places s))

@@ -4,8 +4,9 @@ ghost use Rattle.waves.specs.Ends.{with_word, told, ToldWords};
 
 use crate::Extremes;
 use crate::half_gap::{HalfGap, OPEN, OVER};
-use settings::rounding::{larger, smaller};
+use settings::refusal::Refusal;
 
+// No Option: `OPEN` is below the word of any gap and `OVER` above it, so one max and one min take in each word, the first too.
 #[derive(Clone, Copy)]
 pub struct Ends {
     // `OPEN` where there is no gap.
@@ -22,31 +23,29 @@ impl Ends {
     };
 
     // With one word more, which counts where it is a gap's.
+    #[tactic(auto, unfolding(settings::specs::Refusal::outside, crate::specs::State::no_gap, crate::specs::Ends::with_word))]
     pub fn with(self, word: u64) -> Ends
         ensures { result ≡ with_word word self }
     {
-        if word == OPEN {
-            return self;
-        }
-        if OVER <= word {
+        if word == OPEN || OVER <= word {
             return self;
         }
         Ends {
-            largest: larger(word, self.largest),
-            smallest: smaller(word, self.smallest),
+            largest: word.max(self.largest),
+            smallest: word.min(self.smallest),
         }
     }
 
-    pub fn told(self) -> Extremes
+    pub fn told(self) -> Result<Extremes, Refusal>
         requires { ToldWords self }
         ensures { result ≡ told self }
     {
         if self.largest == OPEN {
-            return Extremes::Refused(52);
+            return Err(Refusal::NoGap);
         }
-        Extremes::Of {
+        Ok(Extremes {
             largest: HalfGap::of(self.largest),
             smallest: HalfGap::of(self.smallest),
-        }
+        })
     }
 }

@@ -23,6 +23,7 @@ pub const OPEN: u64 = 0;
 pub const OVER: u64 = 4_398_046_511_104;
 
 // Of two checked times.
+#[tactic(auto, unfolding(crate::specs::State::word_of))]
 pub fn word(left: u64, right: u64) -> u64
     requires { (left ≤ latest) × (right ≤ latest) }
     ensures { result ≡ word_of left right }

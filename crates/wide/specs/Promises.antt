@@ -3,12 +3,13 @@
 use Rattle.std.specs.Prelude.{◌≡◌, true, false, List, ◌⊎◌, ℕ, suc, ◌+◌, ◌≤◌, ◌<◌, ltb, length, get_or}
 use Rattle.std.proofs.Math.Option.{Option, none, some}
 use Rattle.std.specs.Float.Ieee.Exact.{HasValue}
+use Rattle.settings.specs.Refusal.{number_in}
 use Rattle.settings.specs.Settings.{settings_refusal}
 use Rattle.settings.specs.declared.Settings.{Settings}
 use Rattle.columns.specs.Marks.{marked, mark_bytes}
 use Rattle.seam.specs.Seam.{latest, halves}
 use Rattle.places.specs.Seams.{seam_left, seam_right}
-use Rattle.wide.specs.Wide.{half_ticks, SeamWide, first_wide, number_of, wide_of}
+use Rattle.wide.specs.Wide.{half_ticks, SeamWide, first_wide, wide_of}
 
 -- §E7.1 what is compared is the half gap that the seam's record holds, and its line prints: that many half ticks, without the sign
 unfoldable pub HalfGapHeld : Type 0
@@ -70,16 +71,16 @@ module _ (w : ℕ) (ts ms : List ℕ) where
 -- §E7.2 what the answer says of a row that is lent as it should be: the first wide seam and no other, or that there is none, or 31
 pub record Answered (s : Settings) (ts ms : List ℕ) (n : ℕ) : Type 0 where
   pub wide : (x : SeamWide) → wide_of (first_wide s ts ms n) ≡ some x → WideFound s.width ts ms n x
-  pub none_wide : wide_of (first_wide s ts ms n) ≡ none → number_of (first_wide s ts ms n) ≡ 0 → Passed s.width ts ms n (suc s.width)
-  pub late : (number_of (first_wide s ts ms n) ≡ 0 → ⊥) → (number_of (first_wide s ts ms n) ≡ 31) × LateFound s.width ts ms n
+  pub none_wide : wide_of (first_wide s ts ms n) ≡ none → number_in (first_wide s ts ms n) ≡ 0 → Passed s.width ts ms n (suc s.width)
+  pub late : (number_in (first_wide s ts ms n) ≡ 0 → ⊥) → (number_in (first_wide s ts ms n) ≡ 31) × LateFound s.width ts ms n
 
 -- §E7.2 so it is of every row, and where settings or lengths are not right the answer is their number and no seam
 unfoldable pub FirstAnswered : Type 0
 FirstAnswered =
     (s : Settings) (ts ms : List ℕ) (n : ℕ) →
-    ((settings_refusal s ≡ 0 → ⊥) → (number_of (first_wide s ts ms n) ≡ settings_refusal s) × (wide_of (first_wide s ts ms n) ≡ none))
+    ((settings_refusal s ≡ 0 → ⊥) → (number_in (first_wide s ts ms n) ≡ settings_refusal s) × (wide_of (first_wide s ts ms n) ≡ none))
     × (settings_refusal s ≡ 0 → ((length ts ≡ s.width) × (length ms ≡ mark_bytes s.width) → ⊥) →
-    (number_of (first_wide s ts ms n) ≡ 21) × (wide_of (first_wide s ts ms n) ≡ none))
+    (number_in (first_wide s ts ms n) ≡ 21) × (wide_of (first_wide s ts ms n) ≡ none))
     × (settings_refusal s ≡ 0 → length ts ≡ s.width → length ms ≡ mark_bytes s.width → Answered s ts ms n)
 
 -- §E7.2 from seam to seam neither the left column falls nor the right one: to order the seams by left and then right, or by right and

@@ -2,16 +2,10 @@
 // type of the answer: specs/ has the definitions and the statements, proofs/ their proofs; the operation is `wide_rows::first_wide`.
 #![tactic(auto)]
 
+// Its columns, and its half gap in half ticks, the sign dropped.
 #[derive(Clone, Copy)]
-pub enum First {
-    // Its columns, and its half gap in half ticks, the sign dropped.
-    Wide {
-        left: u64,
-        right: u64,
-        half_ticks: u64,
-    },
-    // No seam of the row is wide.
-    None,
-    // 1 to 9, 21, or 31.
-    Refused(u32),
+pub struct Wide {
+    pub left: u64,
+    pub right: u64,
+    pub half_ticks: u64,
 }

@@ -10,56 +10,48 @@ use columns::marked;
 use places::seams::{left, other_lengths, right};
 use seam::{LATEST, Seam};
 use settings::Settings;
-use settings::rounding::{larger, smaller};
-use wide::First;
+use settings::refusal::Refusal;
+use wide::Wide;
 
 // Of a row's W times and its marks; the limit is in half ticks.
-pub fn first_wide(settings: Settings, times: &[u64], marks: &[u8], limit: u64) -> First
+pub fn first_wide(
+    settings: Settings,
+    times: &[u64],
+    marks: &[u8],
+    limit: u64,
+) -> Result<Option<Wide>, Refusal>
     ensures { result ≡ first_wide settings times.now marks.now limit }
 {
-    let number = settings.refusal();
-    if number != 0 {
-        return First::Refused(number);
-    }
+    settings.check()?;
     let width = settings.width;
     if other_lengths(width as usize, times.len(), marks.len()) {
-        return First::Refused(21);
+        return Err(Refusal::Lengths);
     }
     along(times, marks, limit)
 }
 
-// Goes from seam to seam until one is wide or turned away.
-fn along(times: &[u64], marks: &[u8], limit: u64) -> First
+// Goes from seam to seam until one is wide or turned away, past those that are narrow at once.
+fn along(times: &[u64], marks: &[u8], limit: u64) -> Result<Option<Wide>, Refusal>
     requires { (6 ≤ length times.now) × (length times.now ≤ 256) × (length marks.now ≡ mark_bytes (length times.now)) }
     ensures { result ≡ row_first limit (length times.now) times.now marks.now }
 {
     let width = times.len() as u64;
     let mut i = 0;
+    // A `while`: it goes on by as many seams as are passed at once.
     while i <= width {
         i = passed(times, limit, i as usize) as u64;
         let a = left(width, i) as usize;
         let b = right(width, i) as usize;
-        match seam_first(times, marks, limit, a, b) {
-            First::None => {
+        match seam_first(times, marks, limit, a, b)? {
+            Some(wide) => {
+                return Ok(Some(wide));
+            }
+            None => {
                 i += 1;
-            }
-            First::Wide {
-                left,
-                right,
-                half_ticks,
-            } => {
-                return First::Wide {
-                    left,
-                    right,
-                    half_ticks,
-                };
-            }
-            First::Refused(number) => {
-                return First::Refused(number);
             }
         }
     }
-    First::None
+    Ok(None)
 }
 
 // The first seam from i on that its times alone don't show to be narrow, of those between a column and the next; i where it is
@@ -73,60 +65,59 @@ fn passed(times: &[u64], limit: u64, i: usize) -> usize
         return i;
     }
     let last = times.len() - 1;
-    let mut at = i;
     let mut left = times[i - 1];
-    while at < last {
+    for at in i..last {
         let right = times[at];
         if !narrow(left, right, limit) {
             return at;
         }
         left = right;
-        at += 1;
     }
-    at
+    i.max(last)
 }
 
 // Whether two times are in time and no more than the limit apart.
 fn narrow(left: u64, right: u64, limit: u64) -> bool
     ensures { result ≡ are_narrow limit left right }
 {
-    let later = larger(left, right);
-    if LATEST < later {
-        return false;
-    }
-    later - smaller(left, right) <= limit
+    left.max(right) <= LATEST && left.abs_diff(right) <= limit
 }
 
 // The seam of two columns. Its marks are looked at only where its times alone don't show it to be narrow.
-fn seam_first(times: &[u64], marks: &[u8], limit: u64, a: usize, b: usize) -> First
+fn seam_first(
+    times: &[u64],
+    marks: &[u8],
+    limit: u64,
+    a: usize,
+    b: usize,
+) -> Result<Option<Wide>, Refusal>
     requires { (length marks.now ≡ mark_bytes (length times.now)) × (a < length times.now) × (b < length times.now) × (length times.now ≤ 256) }
     ensures { result ≡ seam_first limit times.now marks.now a b }
 {
     let left = times[a];
     let right = times[b];
     if narrow(left, right, limit) {
-        return First::None;
+        return Ok(None);
     }
-    let half_ticks = larger(left, right) - smaller(left, right);
+    let half_ticks = left.abs_diff(right);
     let left_faulty = marked(marks, a);
     let right_faulty = marked(marks, b);
-    match seam::join(left, left_faulty, right, right_faulty) {
-        Seam::Closed(_) => over(limit, a as u64, b as u64, half_ticks),
-        Seam::Open(_) => First::None,
-        Seam::Refused(number) => First::Refused(number),
+    match seam::join(left, left_faulty, right, right_faulty)? {
+        Seam::Closed(_) => Ok(over(limit, a as u64, b as u64, half_ticks)),
+        Seam::Open(_) => Ok(None),
     }
 }
 
 // A closed seam.
-fn over(limit: u64, left: u64, right: u64, half_ticks: u64) -> First
+fn over(limit: u64, left: u64, right: u64, half_ticks: u64) -> Option<Wide>
     ensures { result ≡ if_over limit left right half_ticks }
 {
     if half_ticks <= limit {
-        return First::None;
+        return None;
     }
-    First::Wide {
+    Some(Wide {
         left,
         right,
         half_ticks,
-    }
+    })
 }

@@ -1,8 +1,6 @@
 -- The bytes that are read and not yet taken. Assumes nothing.
-use Rattle.std.specs.Prelude.{◌≡◌, Bool, false, cond, List, ℕ, ◌+◌, ◌-◌, ◌≤◌, ◌<◌, ltb, length, take, drop}
+use Rattle.std.specs.Prelude.{◌≡◌, Bool, false, cond, List, ℕ, ◌+◌, ◌-◌, ◌≤◌, ◌<◌, ltb, length, take, drop, Result, IfOk}
 use Rattle.window.specs.declared.Window.{Window}
-use Rattle.window.specs.declared.Reading.{Reading}
-use Rattle.window.specs.declared.Reading.TheVariants.{Ready, Failed}
 
 -- §16.2 a window in a buffer of n bytes
 pub record InBuffer (w : Window) (n : ℕ) : Type 0 where
@@ -34,9 +32,8 @@ pub record ReadOn (w : Window) (before : List ℕ) (r : Window) (after : List �
   pub more : r.ended ≡ false → w.end < r.end
 
 -- §16.2 that, unless the read failed
-unfoldable pub read_on : Window → (before : List ℕ) → Reading → (after : List ℕ) → Type 0
-read_on w before (Ready r) after = ReadOn w before r after
-read_on w before Failed after = Unit {0}
+abbrev pub read_on : {E : Type 0} → Window → (before : List ℕ) → Result Window E → (after : List ℕ) → Type 0
+read_on w before f after = IfOk f (λ r. ReadOn w before r after)
 
 -- §16.2 what is read comes behind what stood in the window, and the due part is whole or the input has ended
 pub record FilledUp (w : Window) (due : ℕ) (before : List ℕ) (r : Window) (after : List ℕ) : Type 0 where
@@ -45,6 +42,5 @@ pub record FilledUp (w : Window) (due : ℕ) (before : List ℕ) (r : Window) (a
   pub enough : lacking r due ≡ false
 
 -- §16.2 that, unless a read failed
-unfoldable pub filled_up : Window → (due : ℕ) → (before : List ℕ) → Reading → (after : List ℕ) → Type 0
-filled_up w due before (Ready r) after = FilledUp w due before r after
-filled_up w due before Failed after = Unit {0}
+abbrev pub filled_up : {E : Type 0} → Window → (due : ℕ) → (before : List ℕ) → Result Window E → (after : List ℕ) → Type 0
+filled_up w due before f after = IfOk f (λ r. FilledUp w due before r after)

@@ -16,13 +16,6 @@ pub struct Window {
     pub ended: bool,
 }
 
-#[derive(Clone, Copy)]
-pub enum Reading {
-    Ready(Window),
-    // A read failed.
-    Failed,
-}
-
 impl Window {
     // Whether the due part is still to be read.
     pub fn lacks(self, due: usize) -> bool
@@ -40,23 +33,23 @@ impl Window {
         requires { self.start ≤ self.end }
         ensures { result ≡ self.start + min due (self.end - self.start) }
     {
-        let start = self.start;
-        let end = self.end;
-        if end - start < due {
-            return end;
-        }
-        start + due
+        self.start + due.min(self.end - self.start)
     }
 }
 
 // Reads until the due part is in the window or the input has ended; not at all where nothing is lacking.
-pub fn fill<R: Read>(from: &mut R, window: Window, due: usize, input: &mut [u8]) -> Reading
+pub fn fill<R: Read>(
+    from: &mut R,
+    window: Window,
+    due: usize,
+    input: &mut [u8],
+) -> io::Result<Window>
     requires { InBuffer window (length input.old) × (due ≤ length input.old) }
-    ensures idle { lacking window due ≡ false → (result ≡ Reading.Ready window) × (input.new ≡ input.old) }
+    ensures idle { lacking window due ≡ false → (result ≡ Ok window) × (input.new ≡ input.old) }
     ensures filled { filled_up window due input.old result input.new }
 {
     if !window.lacks(due) {
-        return Reading::Ready(window);
+        return Ok(window);
     }
     read_part(from, placed(window, due, input), due, input)
 }
@@ -66,67 +59,49 @@ fn placed(window: Window, due: usize, input: &mut [u8]) -> Window
     requires { InBuffer window (length input.old) × (due ≤ length input.old) }
     ensures { Placed window due input.old result input.new }
 {
-    let start = window.start;
-    let end = window.end;
-    if start < end {
-        if due <= input.len() - start {
-            return window;
-        }
+    let Window { start, end, ended } = window;
+    if start < end && due <= input.len() - start {
+        return window;
     }
-    to_front(input, start, end - start);
+    input.copy_within(start..end, 0);
     Window {
         start: 0,
         end: end - start,
-        ended: window.ended,
-    }
-}
-
-// Copies the `count` bytes from `start` on to the front.
-fn to_front(input: &mut [u8], start: usize, count: usize)
-    requires { start + count ≤ length input.old }
-    ensures { take count input.new ≡ take count (drop start input.old) }
-{
-    let mut i = 0;
-    while i < count {
-        input[i] = input[start + i];
-        i += 1;
+        ended,
     }
 }
 
 // Reads behind the window, which has room, until the due part is there.
-fn read_part<R: Read>(from: &mut R, window: Window, due: usize, input: &mut [u8]) -> Reading
+fn read_part<R: Read>(
+    from: &mut R,
+    window: Window,
+    due: usize,
+    input: &mut [u8],
+) -> io::Result<Window>
     requires { InBuffer window (length input.old) × (window.start + due ≤ length input.old) }
     ensures { filled_up window due input.old result input.new }
 {
     let mut window = window;
+    // A `while`: each read brings as many bytes as it likes.
     while window.lacks(due) {
-        match take_in(from, window, input) {
-            Reading::Ready(next) => {
-                window = next;
-            }
-            Reading::Failed => {
-                return Reading::Failed;
-            }
-        }
+        window = take_in(from, window, input)?;
     }
-    Reading::Ready(window)
+    Ok(window)
 }
 
 // Takes bytes in from the reader, behind the window; the edge of the proof on that side. With room there, no byte
 // means that the input has ended.
-fn take_in<R: Read>(from: &mut R, window: Window, input: &mut [u8]) -> Reading
+fn take_in<R: Read>(from: &mut R, window: Window, input: &mut [u8]) -> io::Result<Window>
     requires { (window.start ≤ window.end) × (window.end < length input.old) }
     ensures { read_on window input.old result input.new }
 {
     let end = window.end;
-    match read_some(from, &mut input[end..]) {
-        Ok(n) => Reading::Ready(Window {
-            start: window.start,
-            end: end + n,
-            ended: n == 0,
-        }),
-        Err(_) => Reading::Failed,
-    }
+    let n = read_some(from, &mut input[end..])?;
+    Ok(Window {
+        start: window.start,
+        end: end + n,
+        ended: n == 0,
+    })
 }
 
 // So many signals in a row, without a byte between them, count as a failure: a loop has to end.

@@ -14,19 +14,12 @@ use tables::{
     SECOND_DIGITS, THIRD_DIGITS,
 };
 
-// The eight bytes of a word. Stores in rising order become one.
+// The eight bytes of a word.
 pub fn put(word: u64, out: &mut [u8], at: usize)
     requires { at + 8 ≤ length out.old }
     ensures { Wrote out.old at (bytes 8 word) out.new (at + 8) }
 {
-    out[at] = (word % 256) as u8;
-    out[at + 1] = ((word >> 8) % 256) as u8;
-    out[at + 2] = ((word >> 16) % 256) as u8;
-    out[at + 3] = ((word >> 24) % 256) as u8;
-    out[at + 4] = ((word >> 32) % 256) as u8;
-    out[at + 5] = ((word >> 40) % 256) as u8;
-    out[at + 6] = ((word >> 48) % 256) as u8;
-    out[at + 7] = ((word >> 56) % 256) as u8;
+    out[at..at + 8].copy_from_slice(&word.to_le_bytes());
 }
 
 // The first bytes of a word, `count` of them; all eight are put.

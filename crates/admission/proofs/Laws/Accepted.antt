@@ -8,7 +8,8 @@ use lib.ListN.{length, get_or}
 use native.Mathlib.Omega.{arith}
 use borrow.Author.Tests.{ltb-false, not-false, ne_eqb}
 use Rattle.settings.specs.Refusal.{any_below}
-use Rattle.settings.specs.Settings.{settings_refusal}
+use Rattle.settings.specs.Settings.{settings_cause, settings_refusal}
+use Rattle.settings.specs.declared.refusal.Refusal.TheVariants as why
 use Rattle.rule.specs.Clock.{phase_most}
 use Rattle.rule.specs.Stamp.{silence}
 use Rattle.settings.specs.declared.Settings.{Settings}
@@ -17,7 +18,7 @@ use Rattle.columns.specs.Columns.{is_predecessor, predecessors, link}
 use Rattle.admission.specs.Call.{Call}
 use Rattle.links.specs.Links.{latest_time, bad_value, bad_link, bad_links}
 use Rattle.columns.specs.Marks.{marked, mark_bytes, faulty_among}
-use Rattle.admission.specs.Refusal.{lengths_right, stray_mark, late_time, crowded, over, row_tests, row_refusal}
+use Rattle.admission.specs.Refusal.{lengths_right, stray_mark, late_time, crowded, over, row_tests, row_cause, row_refusal}
 use Rattle.settings.proofs.Laws.AnyBelow.{none_below}
 use Rattle.admission.proofs.Laws.Lengths.{Sized, sized}
 use Rattle.columns.proofs.Laws.Lists.{none_of}
@@ -57,17 +58,17 @@ unfolding bad_value
 arrival_of s m v p e n = ltb-false latest_time v (rw (p, ne_eqb v silence n) at e)
 
 pub accepted : (s : Settings) (ts : List ℕ) (x : Call) → row_refusal s ts x ≡ 0 → Accepted s ts x
-unfolding row_refusal row_tests late_time crowded over bad_links bad_link predecessors
+unfolding row_refusal row_cause row_tests settings_refusal late_time crowded over bad_links bad_link predecessors
 accepted s ts x e =
     let w = s.width in
-    let t1 = unhit_given (settings_refusal s) _ e in
-    let t2 = unhit 20 (not (lengths_right w ts x)) _ t1.1 in
-    let t3 = unhit 21 (any_below (8 * mark_bytes w) (stray_mark w x.marks)) _ t2.1 in
-    let t4 = unhit 22 (any_below w (late_time ts x.marks)) _ t3.1 in
-    let t5 = unhit 23 (any_below w (crowded w x.marks)) _ t4.1 in
-    let t6 = unhit 24 (any_below w (over s.drift x.drifts)) _ t5.1 in
-    let t7 = unhit 52 (any_below w (over phase_most x.phases)) _ t6.1 in
-    let t8 = unhit 25 (any_below w (bad_links s x.marks x.links)) _ t7.1 in
+    let t1 = unhit_given (settings_cause s) _ e in
+    let t2 = unhit why.Lengths (not (lengths_right w ts x)) _ t1.1 in
+    let t3 = unhit why.StrayMark (any_below (8 * mark_bytes w) (stray_mark w x.marks)) _ t2.1 in
+    let t4 = unhit why.LateTime (any_below w (late_time ts x.marks)) _ t3.1 in
+    let t5 = unhit why.Crowded (any_below w (crowded w x.marks)) _ t4.1 in
+    let t6 = unhit why.TileDrift (any_below w (over s.drift x.drifts)) _ t5.1 in
+    let t7 = unhit why.Phase (any_below w (over phase_most x.phases)) _ t6.1 in
+    let t8 = unhit why.Link (any_below w (bad_links s x.marks x.links)) _ t7.1 in
     record {
       settings = t1.0;
       lengths = lengths_of w ts x (not-false (lengths_right w ts x) t2.0);

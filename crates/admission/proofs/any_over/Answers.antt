@@ -1,7 +1,7 @@
 -- `any_over` meets its contract: the larger of the largest so far and the next value is over the limit where one of them is. Assumes nothing.
 use mathlib.Core.Path.{◌≡◌, sym}
-use mathlib.Core.Bool.{◌||◌, or-true, or-false}
-use Prim.Native.Nat.{ℕ, ◌^◌, ◌≤◌, ◌<◌}
+use mathlib.Core.Bool.{◌||◌, or-true}
+use Prim.Native.Nat.{ℕ, max}
 use native.Mathlib.Numerals.{add-one}
 use native.Mathlib.Omega.{arith}
 use lib.Dec.{ltb}
@@ -10,41 +10,23 @@ use borrow.Author.Tests.{lt-ltb, le-ltb}
 use Rattle.settings.specs.Refusal.{any_below}
 use Rattle.settings.proofs.Laws.Cases.{by_order}
 use Rattle.admission.specs.Refusal.{over}
-use Rattle.admission.proofs.any_over.Goals.{then-most-value, else-most-value}
 use Rattle.admission.proofs.any_over.Goals as goal
 
 -- over the limit, of two numbers
-larger_new : (r m d : ℕ) → m ≤ d → (ltb r m || ltb r d) ≡ ltb r d
-larger_new r m d i =
+over_larger : (r m d : ℕ) → (ltb r m || ltb r d) ≡ ltb r (max m d)
+over_larger r m d =
     by_order d r
-    (λ j. rw (le-ltb r d j, le-ltb r m (omega arith)))
-    (λ j. rw (lt-ltb r d j) (or-true (ltb r m)))
+    (λ j. by_order m r
+    (λ i. rw (le-ltb r d j, le-ltb r m i, le-ltb r (max m d) (omega arith)))
+    (λ i. rw (lt-ltb r m i, lt-ltb r (max m d) (omega arith))))
+    (λ j. rw (lt-ltb r d j, lt-ltb r (max m d) (omega arith)) (or-true (ltb r m)))
 
-larger_old : (r m d : ℕ) → d ≤ m → (ltb r m || ltb r d) ≡ ltb r m
-larger_old r m d i =
-    by_order d r
-    (λ j. rw (le-ltb r d j) (or-false (ltb r m)))
-    (λ j. rw (lt-ltb r m (omega arith)))
-
-pub loop-c-init : goal.loop-c-init
+pub loop-value-init : goal.loop-value-init
 unfolding any_below
-loop-c-init c = (omega arith, omega arith, sym (le-ltb c.args.limit 0 (omega arith)))
+loop-value-init c = sym (le-ltb c.args.limit 0 (omega arith))
 
-pub loop-c-preserved : goal.loop-c-preserved
+pub loop-value-preserved : goal.loop-value-preserved
 unfolding any_below over
-loop-c-preserved c = let a = c.args in
-    let d = get_or a.values.now c.loop-c.c 0 in
-    let fits = c.type_inv.values c.loop-c.c in
-    let small : c.if-most-value.most < 2 ^ 32 = elim c.if-most-value.branch [ then-most-value w ↦ omega (arith, w.most-is, fits) | else-most-value w ↦ omega (arith, w.most-is) ] in (
-      omega arith,
-      small,
-      rw (add-one, c.loop-c.invariant.2)
-          (elim c.if-most-value.branch [
-            | then-most-value w ↦ rw w.most-is (larger_new a.limit c.loop-c.most d (omega (arith, w.if-most-value.true)))
-            | else-most-value w ↦ rw w.most-is (larger_old a.limit c.loop-c.most d w.if-most-value.false)
-          ]),
-    )
-
-pub returns : goal.returns
-returns c = let all : c.loop-c.c ≡ c.args.width = omega arith in
-    sym (rw all at c.loop-c.invariant.2)
+loop-value-preserved c =
+    let next = get_or c.args.values.now c.loop-value.value-index 0 in
+    rw (add-one, c.loop-value.invariant, c.max-most.ensures) (over_larger c.args.limit c.loop-value.most next)

@@ -1,11 +1,10 @@
--- What `crowded`'s loop keeps: no column passed is crowded. Assumes nothing.
-use Rattle.std.proofs.Common.{◌≡◌, ◌-◌, ◌≤◌, false}
-use Rattle.settings.specs.Refusal.{any_below}
+-- What `crowded`'s loops keep: no column passed is crowded. Assumes nothing.
+use Rattle.std.proofs.Common.{◌≡◌, ◌*◌, ◌<◌, ℕ, false}
 use Rattle.admission.specs.Refusal.{crowded}
 use Rattle.admission.proofs.crowded.Given as goal
 
-abbrev pub invariant-loop-c : goal.invariant-loop-c
-invariant-loop-c l = (l.c ≤ l.width) × (any_below l.c (crowded l.width l.marks) ≡ false)
+abbrev pub invariant-loop-byte : goal.invariant-loop-byte
+invariant-loop-byte l = (k : ℕ) → k < 8 * l.byte → k < l.width → crowded l.width l.marks k ≡ false
 
-abbrev pub decreases-loop-c : goal.decreases-loop-c
-decreases-loop-c l = l.width - l.c
+abbrev pub invariant-loop-c : goal.invariant-loop-c
+invariant-loop-c l = (k : ℕ) → k < l.c → k < l.width → crowded l.width l.marks k ≡ false

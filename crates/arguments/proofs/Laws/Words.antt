@@ -2,30 +2,31 @@
 use mathlib.Core.Path.{◌≡◌, refl, sym, ◌∙◌, ap}
 use mathlib.Core.Bool.{Bool, true, false, cond, ◌&&◌, true≢false}
 use mathlib.Core.List.{List, [], ◌∷◌}
-use Prim.Native.Nat.{ℕ, zero, suc, ◌+◌, ◌*◌, ◌-◌, ◌≤◌, ◌<◌}
+use Prim.Native.Nat.{ℕ, suc, ◌+◌, ◌*◌, ◌-◌, ◌≤◌, ◌<◌}
 use native.Mathlib.Omega.{arith}
-use borrow.Author.Tests.{eq-eqb, ne_eqb, le-leb, lt-leb, lt-ltb, le-ltb, leb-true, ltb-true}
+use borrow.Author.Tests.{eq-eqb, ne_eqb, le-leb, lt-leb, lt-ltb, leb-true, ltb-true}
 use lib.Dec.{eqb, leb, ltb}
 use lib.Pointwise.{pointwise}
 use lib.ListN.{length, get_or, drop, drop_of_length-le}
 use lib.Seq.{drop-cons}
+use Rattle.std.specs.Char.{is_ascii_digit}
+use Rattle.std.specs.List.{list_all}
+use Rattle.std.proofs.lemmas.Bool.Decides.{nat_tests}
 use Rattle.settings.proofs.Laws.Cases.{by_equal}
 use Rattle.lines.proofs.Laws.All.{both, all_at}
 use Rattle.lines.specs.Promises.{is_digit, all_are, value_of, spelt_from, spelt}
 use Rattle.arguments.specs.declared.Word.TheVariants.{Number, Name, Other}
 use Rattle.arguments.specs.Words.{same, number_word, option_word, word_of}
 
-digit_below : (g : ℕ) → g < 48 → is_digit g ≡ false
+digit_same : (g : ℕ) → is_digit g ≡ is_ascii_digit g
 unfolding is_digit
-digit_below g i = rw (lt-leb 48 g i)
+digit_same g = grind (arith, nat_tests)
 
-digit_above : (g : ℕ) → 57 < g → is_digit g ≡ false
-unfolding is_digit
-digit_above g i = let low : 48 ≤ g = omega (arith, i) in rw (le-leb 48 g low, le-ltb g 58 i)
-
-digit_right : (g : ℕ) → 48 ≤ g → g ≤ 57 → is_digit g ≡ true
-unfolding is_digit
-digit_right g i j = let below_58 : g < 58 = omega (arith, j) in rw (le-leb 48 g i, lt-ltb g 58 below_58)
+-- the library's test of all bytes is that of the definition
+pub all_listed : (gs : List ℕ) → all_are is_digit gs ≡ list_all is_ascii_digit gs
+unfolding all_are
+all_listed [] = refl
+all_listed (g ∷ gs) = rw (digit_same g, all_listed gs)
 
 digit_value : (g : ℕ) → g ≤ 57 → value_of g ≡ g - 48
 unfolding value_of
@@ -46,40 +47,16 @@ unfolding spelt_from
 spelt_grows n [] = omega arith
 spelt_grows n (g ∷ gs) = let on = spelt_grows (n * 10 + value_of g) gs in omega (arith, on)
 
--- the first i bytes are digits
-unfoldable pub DigitsTo : (word : List ℕ) → (i : ℕ) → Type 0
-DigitsTo word i = all_are is_digit word ≡ all_are is_digit (drop i word)
-
--- they spell n
+-- the first i bytes spell n
 unfoldable pub SpeltTo : (word : List ℕ) → (i n : ℕ) → Type 0
 SpeltTo word i n = spelt 10 word ≡ spelt_from 10 n (drop i word)
 
 module _ (word : List ℕ) where
-  pub no_digits : DigitsTo word 0
-  unfolding DigitsTo
-  no_digits = refl
-
   pub none_spelt : SpeltTo word 0 0
   unfolding SpeltTo spelt
   none_spelt = refl
 
   module _ (i : ℕ) (more : i < length word) where
-    no_digit : DigitsTo word i → is_digit (get_or word i 0) ≡ false → false ≡ all_are is_digit word
-    unfolding DigitsTo all_are
-    no_digit d e = sym (d ∙ ap (all_are is_digit) (drop-cons word i 0 more) ∙ rw e)
-
-    pub below : DigitsTo word i → get_or word i 0 < 48 → false ≡ all_are is_digit word
-    below d j = no_digit d (digit_below (get_or word i 0) j)
-
-    pub above : DigitsTo word i → 57 < get_or word i 0 → false ≡ all_are is_digit word
-    above d j = no_digit d (digit_above (get_or word i 0) j)
-
-    pub digits_more : DigitsTo word i → 48 ≤ get_or word i 0 → get_or word i 0 ≤ 57 → DigitsTo word (i + 1)
-    unfolding DigitsTo all_are
-    digits_more d j k =
-        let one : i + 1 ≡ suc i = omega arith in
-        rw one (d ∙ ap (all_are is_digit) (drop-cons word i 0 more) ∙ rw (digit_right (get_or word i 0) j k))
-
     pub spelt_more : (n : ℕ) → SpeltTo word i n → get_or word i 0 ≤ 57 → SpeltTo word (i + 1) (n * 10 + (get_or word i 0 - 48))
     unfolding SpeltTo spelt_from
     spelt_more n s k =
@@ -87,10 +64,6 @@ module _ (word : List ℕ) where
         rw one
         (s ∙ ap (spelt_from 10 n) (drop-cons word i 0 more)
         ∙ ap (λ (v : ℕ). spelt_from 10 (n * 10 + v) (drop (suc i) word)) (digit_value (get_or word i 0) k))
-
-  pub all_digits : (i : ℕ) → DigitsTo word i → length word ≤ i → true ≡ all_are is_digit word
-  unfolding DigitsTo all_are
-  all_digits i d j = sym (d ∙ ap (all_are is_digit) (drop_of_length-le word j))
 
   -- a number by its limits
   pub too_large : (least largest i n : ℕ) → SpeltTo word i n → largest < n → Other ≡ number_word least largest (spelt 10 word)

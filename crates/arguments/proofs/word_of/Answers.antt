@@ -1,17 +1,20 @@
 -- `word_of` meets its contract. Assumes nothing.
 use mathlib.Core.Path.{sym, ◌∙◌}
-use Rattle.arguments.proofs.Laws.Words.{no_bytes, is_option, is_number, is_name}
+use native.Mathlib.Omega.{arith}
+use Rattle.arguments.proofs.Laws.Words.{all_listed, no_bytes, is_option, is_number, is_name}
 use Rattle.arguments.proofs.word_of.Goals as goal
 
-pub returns-then-word-eq0 : goal.returns-then-word-eq0
-returns-then-word-eq0 c = no_bytes _ _ _ c.if-word-eq0.true
+pub returns-in-empty : goal.returns-in-empty
+returns-in-empty c = no_bytes _ _ _ (omega (arith, c.in-empty.len_below))
 
-pub returns-then-word-eq45 : goal.returns-then-word-eq45
-returns-then-word-eq45 c = c.option.ensures ∙ is_option _ _ _ c.if-word-eq0.false c.if-word-eq45.true
+pub returns-in-45 : goal.returns-in-45
+returns-in-45 c = c.option.ensures ∙ is_option _ _ _ (λ e. omega (arith, e)) (omega arith)
 
-pub returns-then-all_digits : goal.returns-then-all_digits
-returns-then-all_digits c =
-    c.number.ensures ∙ is_number _ _ _ c.if-word-eq0.false c.if-word-eq45.false (sym c.all_digits.ensures ∙ c.if-all_digits.true)
+pub number-requires : goal.number-requires
+number-requires c = all_listed _ ∙ sym c.all_digits.ensures ∙ c.if-all_digits.true
 
-pub returns : goal.returns
-returns c = is_name _ _ _ c.if-word-eq0.false c.if-word-eq45.false (sym c.all_digits.ensures ∙ c.if-all_digits.false)
+pub returns-in_default : goal.returns-in_default
+returns-in_default c = c.number.ensures ∙ is_number _ _ _ (λ e. omega (arith, e)) (λ e. omega (arith, e)) (all_listed _ ∙ sym c.all_digits.ensures ∙ c.if-all_digits.true)
+
+pub returns-in_default-2 : goal.returns-in_default-2
+returns-in_default-2 c = is_name _ _ _ (λ e. omega (arith, e)) (λ e. omega (arith, e)) (all_listed _ ∙ sym c.all_digits.ensures ∙ c.if-all_digits.false)

@@ -7,15 +7,17 @@ use borrow.Author.Tests.{eq-eqb, ne_eqb, lt-ltb, le-ltb}
 use lib.ListN.{length, drop}
 use Rattle.settings.specs.declared.Settings.{Settings}
 use Rattle.settings.proofs.Laws.Cases.{by_order, by_equal}
+use Rattle.settings.proofs.Laws.Refusal.{none_of}
 use Rattle.row.specs.Row.{Pulses}
-use Rattle.steps.specs.Number.{settings_number, start_number, row_number}
+use Rattle.steps.specs.Number.{settings_field_cause, start_cause, row_fields_cause}
 use Rattle.steps.specs.Shown.{Shown}
-use Rattle.steps.specs.Step.{stepped, away, settings_step, start_step, after_row, row_step, end_step, step_of}
+use Rattle.steps.specs.Step.{stepped, away, unless, settings_step, start_step, after_row, row_step, end_step, step_of}
+use Rattle.steps.proofs.Laws.Taken.{by_cause}
 use Rattle.show.specs.Text.{texts_of}
 use Rattle.stages.specs.Fit.{place, due_size}
 use Rattle.stages.specs.declared.Wall.{Wall}
 use Rattle.stages.specs.declared.Wall.TheVariants.{New, Start, Row, End, Over}
-use Rattle.file.specs.File.{rows_shown, start_shown, shown}
+use Rattle.file.specs.File.{or_shown, rows_shown, start_shown, shown}
 use Rattle.file.specs.Stands.{Stands}
 use Rattle.file.proofs.Laws.Calls.{texts_append}
 use Rattle.file.proofs.Laws.Steps.{part_enough, any_letters}
@@ -43,19 +45,19 @@ after_shown s l i at ts bs =
 -- each step of a wall that stands shows its part, and leaves the rest
 pub goes_on : (x : Wall) (ts : Pulses) (bs : List ℕ) → Stands x →
     from x ts bs ≡ (step_of x ts bs).shows ++ from (step_of x ts bs).next (step_of x ts bs).row (drop (due_size x) bs)
-unfolding Stands step_of settings_step start_step row_step end_step stepped away place due_size shown start_shown rows_shown
+unfolding Stands step_of settings_step start_step row_step end_step unless stepped away place due_size shown start_shown rows_shown or_shown
 goes_on New ts bs i =
-    by_equal (settings_number bs) 0 (λ e. rw (eq-eqb (settings_number bs) 0 e)) (λ k. rw (ne_eqb (settings_number bs) 0 k))
+    by_cause (settings_field_cause bs) (λ e. rw (none_of (settings_field_cause bs) e)) (λ why e. rw e)
 goes_on (Start p) ts bs i =
     let s = p.settings in
     let all : s.rows - 0 ≡ s.rows = omega arith in
-    by_equal (start_number s bs) 0 (λ e. rw (eq-eqb (start_number s bs) 0 e, all) (any_letters s s.rows _ _ [] ts.letters _)) (λ k. rw (ne_eqb (start_number s bs) 0 k))
+    by_cause (start_cause s bs) (λ e. rw (none_of (start_cause s bs) e, all) (any_letters s s.rows _ _ [] ts.letters _)) (λ why e. rw e)
 goes_on (Row p) ts bs i =
     let s = p.settings in
     let more : s.rows - p.row ≡ suc (s.rows - suc p.row) = omega (arith, i.1) in
-    by_equal (row_number s ts.times bs) 0
-    (λ e. rw (more, eq-eqb (row_number s ts.times bs) 0 e, after_shown s (suc p.row) (omega (arith, i.1))))
-    (λ k. rw (more, ne_eqb (row_number s ts.times bs) 0 k))
+    by_cause (row_fields_cause s ts.times bs)
+    (λ e. rw (more, none_of (row_fields_cause s ts.times bs) e, after_shown s (suc p.row) (omega (arith, i.1))))
+    (λ why e. rw (more, e))
 goes_on (End p) ts bs i =
     by_equal (length bs) 0 (λ e. rw (eq-eqb (length bs) 0 e) (sym (append-nil _))) (λ k. rw (ne_eqb (length bs) 0 k))
 goes_on Over ts bs i = refl

@@ -7,19 +7,24 @@ use Prim.Native.Nat.{ℕ, zero, suc, ◌+◌, ◌-◌}
 use native.Mathlib.Omega.{arith}
 use lib.Dec.{eqb, ltb}
 use lib.ListN.{length, take, drop}
+use Rattle.std.specs.Prelude as prelude
+use Rattle.settings.specs.Refusal.{number as refusal_number}
 use Rattle.settings.specs.declared.Settings.{Settings}
-use Rattle.settings.proofs.Laws.Cases.{by_equal}
+use Rattle.settings.specs.declared.refusal.Refusal.{Refusal}
+use Rattle.settings.specs.declared.refusal.Refusal.TheVariants.{GoesOn}
+use Rattle.settings.proofs.Laws.Refusal.{a_number}
 use Rattle.row.specs.Row.{Pulses, pulses}
 use Rattle.contents.specs.Contents.{row_size, marks_in}
 use Rattle.stages.specs.Fit.{place, due_size}
 use Rattle.stages.specs.declared.Wall.{Wall}
 use Rattle.stages.specs.declared.Wall.TheVariants.{New, Start, Row, End, Over}
-use Rattle.steps.specs.Answer.{number_due, offset_due, wall_then, row_then, shown_then}
-use Rattle.steps.specs.Number.{row_number}
+use Rattle.steps.specs.Answer.{cause_due, number_due, offset_due, wall_then, row_then, shown_then}
+use Rattle.steps.specs.Number.{row_fields_cause}
 use Rattle.steps.specs.Shown.{Shown, turned_away, row_shown, no_marks}
 use Rattle.steps.specs.Step.{Stepped, stepped, away, after_row, step_of}
+use Rattle.steps.proofs.Laws.Taken.{by_cause}
 use Rattle.steps.proofs.Laws.Answer.{step_goes, step_away, times_same}
-use Rattle.file.specs.File.{rows_shown}
+use Rattle.file.specs.File.{or_shown, rows_shown}
 use Rattle.file.specs.Stands.{Stands}
 use Rattle.file.proofs.Laws.Steps.{part_enough}
 use Rattle.lines.specs.Line.{refused_line}
@@ -45,13 +50,18 @@ module _ (n : ℕ) where
   either true xs ys zs e = e
   either false xs ys zs e = refl
 
+  either_cause : (o : prelude.Option Refusal) (at : ℕ) (xs ys : List Shown) → found n xs ≡ found n ys → found n (or_shown o at xs) ≡ found n (or_shown o at ys)
+  unfolding or_shown
+  either_cause prelude.None at xs ys e = e
+  either_cause (prelude.Some why) at xs ys e = refl
+
   rows_unread : (s : Settings) (k l at : ℕ) (r : Pulses) (bs : List ℕ) → found n (rows_shown s k l at r bs) ≡ found n (rows_shown s k l at (pulses r.times []) bs)
   unfolding rows_shown
   rows_unread s zero l at r bs =
       let ms = no_marks s.width in
-      either (eqb (length bs) 0) (row_shown s l ms r) (row_shown s l ms (pulses r.times [])) (turned_away 44 at ∷ [])
+      either (eqb (length bs) 0) (row_shown s l ms r) (row_shown s l ms (pulses r.times [])) (turned_away GoesOn at ∷ [])
       (ap (found n) (sym (append-nil (row_shown s l ms r))) ∙ row_unread s l ms r [] ∙ ap (found n) (append-nil (row_shown s l ms (pulses r.times []))))
-  rows_unread s (suc k) l at r bs = either (eqb (row_number s r.times bs) 0) _ _ _ (row_unread s l (marks_in s.width bs) r _)
+  rows_unread s (suc k) l at r bs = either_cause (row_fields_cause s r.times bs) _ _ _ (row_unread s l (marks_in s.width bs) r _)
 
   unread : (x : Wall) (r : Pulses) (bs : List ℕ) → found n (from x r bs) ≡ found n (from x (pulses r.times []) bs)
   unread New r bs = refl
@@ -117,7 +127,7 @@ module _ (n : ℕ) where
 
   -- a step that is turned away ends the file, which was not over
   not_over : (x : Wall) (m : ℕ) (ts bs t : List ℕ) → (number_due x ts bs ≡ 0 → ⊥) → unless_over x t ≡ t
-  unfolding number_due
+  unfolding number_due cause_due
   not_over New m ts bs t k = refl
   not_over (Start p) m ts bs t k = refl
   not_over (Row p) m ts bs t k = refl
@@ -136,19 +146,22 @@ module _ (n : ℕ) where
       let times : o.row.times ≡ (step_of x r bs).row.times = times_same x ts bs [] r.letters in
       let same : (t : Telling) → t.text ++ answer_from t.wall o.row (drop (due_size x) bs) ≡ t.text ++ answer_from t.wall (step_of x r bs).row (drop (due_size x) bs) =
       λ t. ap (λ (l : List ℕ). t.text ++ unless_over t.wall (answer_text (found n (from t.wall (pulses l []) (drop (due_size x) bs))))) times in
-      by_equal (number_due x ts bs) 0
-      (λ e. let go = step_goes r0 bs x e in
+      by_cause (cause_due x ts bs)
+      (λ none. let e : number_due x ts bs ≡ 0 = unfold number_due in none in
+      let go = step_goes r0 bs x e in
       let kept : row_then x ts bs r0 ≡ o.row = sym (ap (λ (u : Stepped). u.row) go ∙ (unfold stepped in refl)) in
       ap (λ (a : Option Found). unless_over x (answer_text a)) (split ∙ rw go (unfold stepped in refl))
       ∙ on m r bs x (found n (shown_then x r0 bs)) refl
       ∙ ap (λ (t : Telling). t.text ++ answer_from t.wall (row_then x ts bs r0) (drop (due_size x) bs)) (sym (told_on n x m ts bs e))
       ∙ ap (λ (q : Pulses). (finding n x m ts bs).text ++ answer_from (finding n x m ts bs).wall q (drop (due_size x) bs)) kept
       ∙ same (finding n x m ts bs))
-      (λ k. let gone = step_away r0 bs x k in
-      let first : found n (from x r0 bs) ≡ some (refused (number_due x ts bs) (offset_due x bs)) = split ∙ rw gone (unfold away stepped found or_else in refl) in
+      (λ why because. let gone = step_away r0 bs x because in
+      let k : number_due x ts bs ≡ 0 → ⊥ = unfold number_due in a_number _ why because in
+      let number : number_due x ts bs ≡ refusal_number why = unfold number_due in rw because in
+      let first : found n (from x r0 bs) ≡ some (refused why (offset_due x bs)) = split ∙ rw gone (unfold away stepped found or_else in refl) in
       ap (λ (a : Option Found). unless_over x (answer_text a)) first
       ∙ not_over x m ts bs _ k
-      ∙ rw (told_away n x m ts bs k) (unfold says answer_text in sym (append-nil (refused_line (number_due x ts bs) (offset_due x bs)))))
+      ∙ rw (told_away n x m ts bs k, number) (unfold says answer_text in sym (append-nil (refused_line (refusal_number why) (offset_due x bs)))))
 
   -- a step's answer depends on its part alone
   pub part_found : (x : Wall) (m : ℕ) (r : Pulses) (bs : List ℕ) → finding n x m r.times (take (due_size x) bs) ≡ finding n x m r.times bs

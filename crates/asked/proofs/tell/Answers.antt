@@ -20,7 +20,7 @@ tell-requires-in-Wide c = let a = c.args in
 
 pub returns-in-Lines : goal.returns-in-Lines
 returns-in-Lines c = let a = c.args in
-    lines_said a.asked _ a.wall a.kept (pulses a.row.now a.letters.now) a.part.now c.in-Lines.is c.requires.3 c.show-end.ensures
+    lines_said a.asked _ a.wall a.kept (pulses a.row.now a.letters.now) a.part.now c.in-Lines.is c.requires.3 c.unwrap_or.ensures c.show-end.ensures
 
 pub returns-in-Range : goal.returns-in-Range
 returns-in-Range c = let a = c.args in

@@ -4,6 +4,9 @@ use mathlib.Core.Bool.{Bool, true, false, true≢false}
 use Prim.Native.Nat.{ℕ, ◌≤◌, ◌<◌}
 use native.Mathlib.Omega.{arith}
 use borrow.Author.Tests.{lt-ltb, le-ltb}
+use Rattle.std.specs.Prelude.{Option, Some, None}
+use Rattle.settings.specs.declared.refusal.Refusal.{Refusal}
+use Rattle.settings.specs.declared.refusal.Refusal.TheVariants.{Sender}
 use Rattle.settings.proofs.Laws.Cases.{by_order}
 use Rattle.senders.specs.Senders.{is_heard}
 use Rattle.senders.proofs.Laws.Senders.{fit_is}
@@ -13,15 +16,15 @@ use Rattle.board.specs.declared.Heard.{Heard}
 use Rattle.board.proofs.Laws.State.{runs_is}
 
 module _ (b : Board) (k : ℕ) where
-  pub ignored : runs b ≡ false → pulsed b k ≡ record { number = 0; repeat = false; board = b }
+  pub ignored : runs b ≡ false → pulsed b k ≡ record { refusal = None; repeat = false; board = b }
   unfolding pulsed
   ignored e = rw e
 
-  pub turned_away : runs b ≡ true → b.senders.count < k → pulsed b k ≡ record { number = 54; repeat = false; board = b }
+  pub turned_away : runs b ≡ true → b.senders.count < k → pulsed b k ≡ record { refusal = Some Sender; repeat = false; board = b }
   unfolding pulsed
   turned_away e i = rw (e, lt-ltb b.senders.count k i)
 
-  pub taken : runs b ≡ true → k ≤ b.senders.count → pulsed b k ≡ record { number = 0; repeat = is_heard b.senders k; board = hears b k }
+  pub taken : runs b ≡ true → k ≤ b.senders.count → pulsed b k ≡ record { refusal = None; repeat = is_heard b.senders k; board = hears b k }
   unfolding pulsed
   taken e i = rw (e, le-ltb b.senders.count k i)
 
@@ -41,5 +44,5 @@ module _ (b : Board) (k : ℕ) where
   pub repeat_placed : (pulsed b k).repeat ≡ true → k < 4
   repeat_placed e = by_way (λ o. none (ignored o)) (λ r i. none (turned_away r i)) placed
     where
-      none : {n : ℕ} → pulsed b k ≡ record { number = n; repeat = false; board = b } → k < 4
+      none : {o : Option Refusal} → pulsed b k ≡ record { refusal = o; repeat = false; board = b } → k < 4
       none f = absurd (true≢false (sym e ∙ ap (λ (r : Heard). r.repeat) f))

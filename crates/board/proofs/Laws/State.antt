@@ -3,8 +3,12 @@ use mathlib.Core.Path.{◌≡◌, refl, sym, ap}
 use mathlib.Core.Bool.{true, false, ◌&&◌, and-eq-true_iff, true≢false}
 use Prim.Native.Nat.{ℕ, zero, suc, ◌≤◌}
 use lib.Dec.{eqb, leb}
-use borrow.Author.Tests.{eqb-true, eq-eqb, leb-true, le-leb}
+use borrow.Author.Tests.{eqb-true, eq-eqb, ne_eqb, leb-true, le-leb}
+use Rattle.std.specs.Prelude.{Option, Some, None, is_ok}
+use Rattle.settings.specs.Refusal.{refused, answer}
 use Rattle.settings.specs.Settings.{settings_refusal}
+use Rattle.settings.specs.declared.refusal.Refusal.{Refusal}
+use Rattle.settings.proofs.Laws.Refusal.{numbered}
 use Rattle.senders.specs.Senders.{last, fit}
 use Rattle.senders.proofs.Laws.Due.{Sound}
 use Rattle.board.specs.Stand.{stand, is_running}
@@ -12,6 +16,12 @@ use Rattle.board.specs.State.{fits, runs, at, shut, shut_many}
 use Rattle.board.specs.declared.Board.{Board}
 use Rattle.board.specs.declared.stand.Stage.{Stage}
 use Rattle.board.specs.declared.stand.Stage.TheVariants.{Running, Pulsed, Ended}
+
+-- settings pass their check where they have no number
+pub checked : (c : Option Refusal) → is_ok (answer {A = Unit {0}} c tt) ≡ eqb (refused c) 0
+unfolding answer
+checked None = refl
+checked (Some r) = sym (ne_eqb (refused (Some r)) 0 (numbered r))
 
 pub record Runs (b : Board) : Type 0 where
   pub running : b.stand.stage ≡ Running

@@ -3,11 +3,21 @@ use mathlib.Core.Path.{sym, ◌∙◌}
 use Rattle.board_calls.specs.Answers.{pulse_number, pulse_left}
 use Rattle.board_calls.proofs.pulse.Goals as goal
 
-pub returns-then-fits_in : goal.returns-then-fits_in
+pub returns-in-Some : goal.returns-in-Some
 unfolding pulse_number pulse_left
-returns-then-fits_in c = let e = sym c.fits_in.ensures ∙ c.if-fits_in.true in
+returns-in-Some c = let e = sym c.fits_in.ensures ∙ c.if-fits_in.true in
+    let why = rw (c.pulse-heard.ensures, c.tile_in-tile.ensures) at c.in-Some.is in
     record {
-      number = rw (e, c.pulse-heard.ensures, c.tile_in-tile.ensures);
+      number = rw (e, why) c.number.ensures;
+      words = rw (e, c.tile_words.ensures, c.pulse-heard.ensures, c.tile_in-tile.ensures);
+    }
+
+pub returns-in-None : goal.returns-in-None
+unfolding pulse_number pulse_left
+returns-in-None c = let e = sym c.fits_in.ensures ∙ c.if-fits_in.true in
+    let why = rw (c.pulse-heard.ensures, c.tile_in-tile.ensures) at c.in-None.is in
+    record {
+      number = rw (e, why);
       words = rw (e, c.tile_words.ensures, c.pulse-heard.ensures, c.tile_in-tile.ensures);
     }
 

@@ -5,4 +5,4 @@ use Rattle.board_calls.proofs.tile_in.Goals as goal
 
 pub returns : goal.returns
 unfolding tile_in counted
-returns c = rw (c.settings_in.ensures, c.senders_in.ensures, c.stage_in.ensures)
+returns c = rw (c.settings_from.ensures, c.senders_in.ensures, c.stage_in.ensures)

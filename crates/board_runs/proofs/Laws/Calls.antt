@@ -13,7 +13,7 @@ use Rattle.board.specs.declared.Board.{Board}
 use Rattle.board.specs.declared.stand.Stage.{Stage}
 use Rattle.board.specs.declared.stand.Stage.TheVariants.{Running, Pulsed, Ended}
 use Rattle.board_runs.specs.Reading.{closes, Run, run, run_of, board_of}
-use Rattle.board_runs.specs.Program.{Call, Calls, none, hear, shut, shut_many, events_of, all_events, number_in, answer_in, Answered}
+use Rattle.board_runs.specs.Program.{Call, Calls, none, hear, shut, shut_many, events_of, all_events, refusal_in, answer_in, Answered}
 use Rattle.board_runs.proofs.Laws.Run.{run_inside}
 use Rattle.board_runs.proofs.Laws.State.{Accepted, runs_as, pulse_here, pulsed_over, happens_of, after_of, many_closes}
 
@@ -28,18 +28,18 @@ module _ {s : Settings} {n v : ℕ} (a : Accepted s n v) where
   unfolding run_of closes
   inside es = run_inside s n v [] es (omega (arith, a.early))
 
-  -- the number of a pulse
-  number_is : (es : List Event) (k : ℕ) → (pulsed (read es) k).number ≡ number_in n (stage_at es) k
+  -- why a pulse is turned away
+  refusal_is : (es : List Event) (k : ℕ) → (pulsed (read es) k).refusal ≡ refusal_in n (stage_at es) k
   unfolding run
-  number_is es k = pick (run_of s n v es) (inside es)
+  refusal_is es k = pick (run_of s n v es) (inside es)
     where
-      pick : (r : Run) → v + closes r.events ≤ last → (pulsed (board_of s n v r) k).number ≡ number_in n r.stage k
+      pick : (r : Run) → v + closes r.events ≤ last → (pulsed (board_of s n v r) k).refusal ≡ refusal_in n r.stage k
       pick r small = by_stage r.stage
         where
-          by_stage : (x : Stage) → (pulsed (board_of s n v (run r.events x)) k).number ≡ number_in n x k
-          by_stage Running = unfold number_in is_running in (pulse_here a r.events small k).1
-          by_stage Pulsed = unfold number_in is_running in (pulsed_over _ k (runs_as a (run r.events Pulsed) small)).1
-          by_stage Ended = unfold number_in is_running in (pulsed_over _ k (runs_as a (run r.events Ended) small)).1
+          by_stage : (x : Stage) → (pulsed (board_of s n v (run r.events x)) k).refusal ≡ refusal_in n x k
+          by_stage Running = unfold refusal_in is_running in (pulse_here a r.events small k).1
+          by_stage Pulsed = unfold refusal_in is_running in (pulsed_over _ k (runs_as a (run r.events Pulsed) small)).1
+          by_stage Ended = unfold refusal_in is_running in (pulsed_over _ k (runs_as a (run r.events Ended) small)).1
 
   -- the answer of closes
   pub answer_is : (es fs : List Event) (b : Board) → b ≡ read (es ++ fs) → (answered (read es) b).answer ≡ answer_in (stage_at es) (stage_at (es ++ fs))
@@ -72,7 +72,7 @@ module _ {s : Settings} {n v : ℕ} (a : Accepted s n v) where
   reads_on {t = t} es e (hear {cs = cs} k r q c) =
       let next : r.board ≡ read (es ++ pulse k ∷ []) = rw (q, e) (after_pulse es k) in
       let on = reads_on (es ++ pulse k ∷ []) next c in
-      record { state = moved es (pulse k ∷ []) cs t on.state; answers = (rw (q, e) (number_is es k), on.answers) }
+      record { state = moved es (pulse k ∷ []) cs t on.state; answers = (rw (q, e) (refusal_is es k), on.answers) }
   reads_on {t = t} es e (shut {cs = cs} r q c) =
       let next : r.board ≡ read (es ++ close ∷ []) = rw (q, e) (after_close es) in
       let on = reads_on (es ++ close ∷ []) next c in

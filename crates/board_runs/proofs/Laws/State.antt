@@ -7,7 +7,9 @@ use lib.Dec.{ltb}
 use lib.ListN.{replicate}
 use native.Mathlib.Omega.{arith}
 use borrow.Author.Tests.{eq-eqb, le-leb, lt-ltb, le-ltb}
+use Rattle.std.specs.Prelude.{Some, None}
 use Rattle.settings.specs.Settings.{settings_refusal}
+use Rattle.settings.specs.declared.refusal.Refusal.TheVariants.{Sender}
 use Rattle.settings.specs.declared.Settings.{Settings}
 use Rattle.settings.proofs.Laws.Cases.{by_order}
 use Rattle.rule.specs.Stamp.{Stamp, heard, silent}
@@ -33,7 +35,7 @@ pub record Accepted (s : Settings) (n v : ℕ) : Type 0 where
   pub early : v ≤ last
 
 -- a tile whose run is over stays
-pub pulsed_over : (b : Board) (k : ℕ) → runs b ≡ false → ((pulsed b k).board ≡ b) × ((pulsed b k).number ≡ 0)
+pub pulsed_over : (b : Board) (k : ℕ) → runs b ≡ false → ((pulsed b k).board ≡ b) × ((pulsed b k).refusal ≡ None)
 pulsed_over b k e = rw (ignored b k e) (refl, refl)
 
 happens_over : (b : Board) → runs b ≡ false → (e : Event) → happens b e ≡ b
@@ -78,7 +80,7 @@ module _ {s : Settings} {n v : ℕ} (a : Accepted s n v) where
         let e : closes (es ++ pulse k ∷ []) ≡ closes es = unfold closes in omega (arith, closes_++ es (pulse k ∷ [])) in
         rw (e, heard_wrong n v a.two a.three es k i)
 
-    pub pulse_here : (k : ℕ) → ((pulsed here k).board ≡ board_of s n v (run (es ++ pulse k ∷ []) Running)) × ((pulsed here k).number ≡ cond (ltb n k) 54 0)
+    pub pulse_here : (k : ℕ) → ((pulsed here k).board ≡ board_of s n v (run (es ++ pulse k ∷ []) Running)) × ((pulsed here k).refusal ≡ cond (ltb n k) (Some Sender) None)
     unfolding board_of run senders_of
     pulse_here k =
         by_order k n

@@ -22,9 +22,6 @@ quiet_here c = c.quiet.ensures c.if-quiet.true
 pub returns-then-c-lt3 : goal.returns-then-c-lt3
 returns-then-c-lt3 c = none
 
-pub returns-then-width-c : goal.returns-then-width-c
-returns-then-width-c c = none
-
 pub overflow_sub-c : goal.overflow_sub-c
 overflow_sub-c c = omega (arith, c.if-c-lt3.false)
 
@@ -35,9 +32,6 @@ marked-requires c = omega (arith, c.requires.1, c.requires.2)
 pub marked-requires-2 : goal.marked-requires-2
 unfolding mark_bytes
 marked-requires-2 c = omega (arith, c.requires.0, c.requires.2)
-
-pub returns-then-marked : goal.returns-then-marked
-returns-then-marked c = none
 
 -- eight tiles
 pub overflow_add-c-then-quiet : goal.overflow_add-c-then-quiet

@@ -1,5 +1,5 @@
 -- `stretch` meets its contract: each column that is tested makes the stretch one tile longer. Assumes nothing.
-use mathlib.Core.Path.{sym, ◌∙◌}
+use mathlib.Core.Path.{◌≡◌, sym, ◌∙◌}
 use Prim.Native.Nat.{◌+◌, ◌≤◌}
 use native.Mathlib.Omega.{arith}
 use Rattle.columns.specs.Marks.{mark_bytes}
@@ -30,15 +30,9 @@ marked-requires c = omega (arith, inside c, c.requires.1)
 pub returns-then-marked : goal.returns-then-marked
 returns-then-marked c = c.loop-n.invariant
 
-pub overflow_add-n : goal.overflow_add-n
-overflow_add-n c = omega (arith, inside (goal.at.overflow_add-n c).In-loop-n, c.requires.0)
-
-pub loop-n-smaller : goal.loop-n-smaller
-loop-n-smaller c = omega (arith, c.loop-n-test.true)
-
 pub loop-n-preserved : goal.loop-n-preserved
 loop-n-preserved c = let a = c.args in
     plain_more a.width a.marks.now c.loop-n.invariant (omega (arith, inside (goal.at.loop-n-preserved c).In-loop-n)) (sym c.marked.ensures ∙ c.if-marked.false)
 
 pub returns : goal.returns
-returns c = c.loop-n.invariant
+returns c = let all : c.loop-n.n ≡ c.to_next_byte-most.result = omega arith in rw all at c.loop-n.invariant

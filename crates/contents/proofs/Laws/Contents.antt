@@ -1,10 +1,16 @@
 -- The lengths of what the fields hold. Assumes nothing.
-use mathlib.Core.Path.{◌≡◌, refl, ◌∙◌}
-use mathlib.Core.Bool.{true, false}
+use mathlib.Core.Path.{◌≡◌, refl, sym, ◌∙◌}
+use mathlib.Core.Bool.{Bool, true, false}
+use lib.Dec.{ltb}
 use mathlib.Core.List.{List, [], ◌∷◌}
 use Prim.Native.Nat.{ℕ, zero, suc, ◌+◌, ◌-◌, ◌*◌, ◌≤◌, ◌<◌}
 use lib.ListN.{length, get_or, length-append, length-take, length-drop}
 use native.Mathlib.Omega.{arith}
+use Rattle.std.specs.Bool.{MatchBool}
+use Rattle.std.specs.List.{range_with_len, HoldsAt, AllWithin}
+use Rattle.std.proofs.lemmas.List.FromFn.{length-range_with_len, get_or-range_with_len}
+use Rattle.settings.specs.Refusal.{any_below}
+use Rattle.settings.proofs.Laws.AnyBelow.{some_below, none_till, same_below}
 use Rattle.columns.specs.Columns.{predecessors, links_before, table_from}
 use Rattle.columns.specs.Marks.{mark_bytes}
 use Rattle.columns.specs.Window.{four_senders, window, LinksCounted}
@@ -14,7 +20,7 @@ use Rattle.columns.proofs.Laws.Lists.{by_test, table_length, table_at}
 use Rattle.columns.proofs.Promises.{links_counted}
 use Rattle.fields.specs.Bytes.{big_endian}
 use Rattle.fields.specs.Field.{field_refusal, body}
-use Rattle.contents.specs.Contents.{times_in, tile_place, drifts_in, phases_in, tile_links, links_below, links_in, marks_field, row_size, marks_in}
+use Rattle.contents.specs.Contents.{times_in, latest_start, late_start, tile_place, drifts_in, phases_in, tile_links, links_below, links_in, marks_field, row_size, marks_in}
 use Rattle.fields.proofs.Laws.Field.{field_there}
 
 pub body_length : (tag size : ℕ) (bs : List ℕ) → field_refusal tag size bs ≡ 0 → length (body size bs) ≡ size
@@ -94,3 +100,23 @@ module _ (w : ℕ) (wide : 6 ≤ w) where
           tile_links w bs c ≡ big_endian 8 bs at ∷ big_endian 8 bs (at + 8) ∷ big_endian 8 bs (at + 16) ∷ big_endian 8 bs (at + 24) ∷ []
       unfolding tile_links table_from
       four_links f = let z : at + 0 ≡ at = omega arith in rw (with_fourth f, ← e, z)
+
+-- some number below n, as a chain over the range finds it
+any_of_range : (f : ℕ → Bool) (n : ℕ) (r : Bool) →
+    MatchBool r ((k : ℕ) × (k < length (range_with_len 0 n)) × HoldsAt (λ x. f x ≡ true) (range_with_len 0 n) k)
+    (AllWithin (λ x. f x ≡ false) (range_with_len 0 n) 0 (length (range_with_len 0 n))) → r ≡ any_below n f
+any_of_range f n true h =
+    let i : h.0 < n = omega (arith, h.1, length-range_with_len 0 n) in
+    let e : 0 + h.0 ≡ h.0 = omega arith in
+    sym (some_below f n h.0 i (rw (get_or-range_with_len 0 n h.0 0 i, e) at (h.2 0)))
+any_of_range f n false h =
+    sym (none_till f n (λ k i. let e : 0 + k ≡ k = omega arith in rw (get_or-range_with_len 0 n k 0 i, e) at (h k 0 (omega arith) (omega (arith, length-range_with_len 0 n)))))
+
+pub late_among : (w : ℕ) (bs : List ℕ) (r : Bool) →
+    MatchBool r ((k : ℕ) × (k < length (range_with_len 0 w)) × HoldsAt (λ x. ltb latest_start (big_endian 8 bs (8 * x)) ≡ true) (range_with_len 0 w) k)
+    (AllWithin (λ x. ltb latest_start (big_endian 8 bs (8 * x)) ≡ false) (range_with_len 0 w) 0 (length (range_with_len 0 w))) →
+    r ≡ any_below w (late_start (times_in w bs))
+unfolding late_start
+late_among w bs r h =
+    any_of_range (λ x. ltb latest_start (big_endian 8 bs (8 * x))) w r h
+    ∙ same_below (λ x. ltb latest_start (big_endian 8 bs (8 * x))) (late_start (times_in w bs)) w (λ k i. rw (time_at w bs k i))

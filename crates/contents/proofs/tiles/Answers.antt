@@ -56,14 +56,8 @@ overflow_add-at c = omega (arith, in_wall c)
 pub two-requires : goal.two-requires
 two-requires c = omega (arith, in_wall c)
 
-pub overflow_cast-drifts : goal.overflow_cast-drifts
-overflow_cast-drifts c = omega (arith, c.two.ensures.range)
-
 pub offset_bounds-drifts-c : goal.offset_bounds-drifts-c
 offset_bounds-drifts-c c = omega (arith, in_wall (goal.at.offset_bounds-drifts-c c).In-loop-c)
-
-pub bounds-drifts-c : goal.bounds-drifts-c
-bounds-drifts-c c = omega (arith, c.loop-c.invariant.drift.as_long, c.loop-c-test.true)
 
 pub overflow_add-at-in-loop-c : goal.overflow_add-at-in-loop-c
 overflow_add-at-in-loop-c c = omega (arith, in_wall (goal.at.overflow_add-at-in-loop-c c).In-loop-c)
@@ -71,14 +65,8 @@ overflow_add-at-in-loop-c c = omega (arith, in_wall (goal.at.overflow_add-at-in-
 pub four-requires : goal.four-requires
 four-requires c = omega (arith, in_wall (goal.at.four-requires c).In-loop-c)
 
-pub overflow_cast-phases : goal.overflow_cast-phases
-overflow_cast-phases c = omega (arith, c.four.ensures.range)
-
 pub offset_bounds-phases-c : goal.offset_bounds-phases-c
 offset_bounds-phases-c c = omega (arith, in_wall (goal.at.offset_bounds-phases-c c).In-loop-c)
-
-pub bounds-phases-c : goal.bounds-phases-c
-bounds-phases-c c = omega (arith, c.loop-c.invariant.phase.as_long, c.loop-c-test.true)
 
 pub overflow_add-at-in-loop-c-2 : goal.overflow_add-at-in-loop-c-2
 overflow_add-at-in-loop-c-2 c = omega (arith, in_wall (goal.at.overflow_add-at-in-loop-c-2 c).In-loop-c)
@@ -97,12 +85,6 @@ tile-n-requires c = let l = (goal.at.tile-n-requires c).In-loop-c in
       n_in_bounds_2 =
           λ f. let four = with_fourth c.args.width wide.0 c.loop-c.c within f in (omega (arith, i, four, long), omega (arith, i, four));
     }
-
-pub overflow_add-c : goal.overflow_add-c
-overflow_add-c c = omega (arith, in_wall (goal.at.overflow_add-c c).In-loop-c)
-
-pub loop-c-smaller : goal.loop-c-smaller
-loop-c-smaller c = omega (arith, c.loop-c-test.true)
 
 pub loop-c-preserved : goal.loop-c-preserved
 unfolding links_before links_below tile_place

@@ -1,5 +1,5 @@
 -- The loop's invariant: the drifts, phases and links of the tiles passed are written.
-use Prim.Native.Nat.{◌-◌, ◌+◌}
+use Prim.Native.Nat.{◌+◌}
 use Rattle.columns.specs.Columns.{table_from}
 use Rattle.columns.specs.Wrote.{Wrote}
 use Rattle.fields.specs.Bytes.{big_endian}
@@ -12,6 +12,3 @@ invariant-loop-c l = record {
   phase : Wrote l.initial.phases 0 (table_from l.c 0 (λ k. big_endian 4 l.body (tile_place l.width k + 2))) l.phases l.c;
   link : Wrote l.initial.links 0 (links_below l.width l.body l.c) l.links l.n;
 }
-
-abbrev pub decreases-loop-c : goal.decreases-loop-c
-decreases-loop-c l = l.width - l.c

@@ -12,24 +12,6 @@ use Rattle.contents.proofs.times.Goals as goal
 pub loop-c-init : goal.loop-c-init
 loop-c-init c = table_none _ _ 0
 
-pub overflow_mul-c : goal.overflow_mul-c
-overflow_mul-c c = omega (arith, c.loop-c.invariant.as_long)
-
-pub eight-requires : goal.eight-requires
-eight-requires c = omega (arith, c.loop-c.invariant.as_long)
-
-pub offset_bounds-times-c : goal.offset_bounds-times-c
-offset_bounds-times-c c = omega (arith, c.loop-c.invariant.as_long)
-
-pub bounds-times-c : goal.bounds-times-c
-bounds-times-c c = omega (arith, c.loop-c.invariant.as_long)
-
-pub overflow_add-c : goal.overflow_add-c
-overflow_add-c c = omega (arith, c.loop-c.invariant.as_long)
-
-pub loop-c-smaller : goal.loop-c-smaller
-loop-c-smaller c = omega (arith, c.loop-c.invariant.as_long)
-
 pub loop-c-preserved : goal.loop-c-preserved
 loop-c-preserved c = wrote_more c.loop-c.invariant _ (omega (arith, c.loop-c.invariant.as_long)) (table_more _ c.loop-c.c c.eight.ensures) refl
 

@@ -1,4 +1,4 @@
--- Big-endian numbers, byte by byte and in two parts. Assumes nothing.
+-- Big-endian numbers, byte by byte. Assumes nothing.
 use mathlib.Core.Path.{◌≡◌}
 use mathlib.Core.List.{List}
 use Prim.Native.Nat.{ℕ, ◌+◌, ◌*◌}
@@ -10,12 +10,10 @@ pub two_bytes : (bs : List ℕ) (at : ℕ) → big_endian 2 bs at ≡ get_or bs 
 unfolding big_endian
 two_bytes bs at = let e : at + 0 ≡ at = omega arith in rw e (omega arith)
 
-pub two_halves_four : (bs : List ℕ) (at : ℕ) → big_endian 4 bs at ≡ big_endian 2 bs at * 65536 + big_endian 2 bs (at + 2)
+pub four_bytes : (bs : List ℕ) (at : ℕ) →
+    big_endian 4 bs at ≡ ((get_or bs at 0 * 256 + get_or bs (at + 1) 0) * 256 + get_or bs (at + 2) 0) * 256 + get_or bs (at + 3) 0
 unfolding big_endian
-two_halves_four bs at =
-    let e : at + 2 + 0 ≡ at + 2 = omega arith in
-    let f : at + 2 + 1 ≡ at + 3 = omega arith in
-    rw (e, f) (omega arith)
+four_bytes bs at = let e : at + 0 ≡ at = omega arith in rw e (omega arith)
 
 pub eight_bytes : (bs : List ℕ) (at : ℕ) →
     big_endian 8 bs at

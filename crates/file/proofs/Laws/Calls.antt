@@ -7,14 +7,15 @@ use Prim.Native.Nat.{ℕ, zero, suc, ◌+◌, ◌≤◌}
 use lib.ListN.{length, take, drop}
 use lib.Seq.{drop_at, length-take-le}
 use native.Mathlib.Omega.{arith}
-use borrow.Author.Tests.{eq-eqb, ne_eqb}
-use Rattle.settings.proofs.Laws.Cases.{by_equal}
 use Rattle.columns.proofs.Laws.Lists.{by_test}
 use Rattle.row.specs.Row.{Pulses, pulses}
 use Rattle.settings.specs.declared.Settings.{Settings}
 use Rattle.steps.specs.Shown.{Shown, row_shown}
 use Rattle.show.specs.Text.{texts_of, text_of}
-use Rattle.steps.specs.Number.{start_number, row_number}
+use Rattle.std.specs.Prelude.{Option, Some, None}
+use Rattle.settings.proofs.Laws.Refusal.{none_of}
+use Rattle.steps.specs.Number.{start_cause, start_number, row_fields_cause}
+use Rattle.steps.specs.Step.{unless}
 use Rattle.file.specs.File.{wall_text}
 use Rattle.steps.specs.Step.{stepped, away, row_step, step_of, steps_shown}
 use Rattle.stages.specs.Fit.{place, due_size, due_of, wall_fits}
@@ -23,11 +24,10 @@ use Rattle.file.specs.Program.{Calls, over, lent, taken}
 use Rattle.stages.specs.declared.Place.{Place}
 use Rattle.stages.specs.declared.Wall.{Wall}
 use Rattle.stages.specs.declared.Wall.TheVariants.{New, Start, Row}
-use Rattle.wall.specs.declared.Answer.{Answer}
-use Rattle.wall.specs.declared.Answer.TheVariants as step
+use Rattle.wall.specs.declared.Went.{Went}
 use Rattle.wall.proofs.Laws.Fit.{fits_all}
 use Rattle.stages.proofs.Laws.{fits_due}
-use Rattle.steps.proofs.Laws.Taken.{start_goes, start_away}
+use Rattle.steps.proofs.Laws.Taken.{by_cause, start_goes, start_away}
 use Rattle.file.proofs.Laws.Steps.{one_step, nothing_more, steps_right}
 
 pub texts_append : (xs ys : List Shown) → texts_of (xs ++ ys) ≡ texts_of xs ++ texts_of ys
@@ -38,53 +38,53 @@ texts_append (x ∷ xs) ys = ap (λ (t : List ℕ). text_of x ++ t) (texts_appen
 -- the letters of row 0 don't matter
 pub any_letters : (n : ℕ) (s : Settings) (at : ℕ) (ts ls ms bs : List ℕ) →
     steps_shown n (Row (place s 0 at)) (pulses ts ls) bs ≡ steps_shown n (Row (place s 0 at)) (pulses ts ms) bs
-unfolding step_of row_step stepped away row_shown place
+unfolding step_of row_step unless stepped away row_shown place
 any_letters zero s at ts ls ms bs = unfold steps_shown in refl
 any_letters (suc n) s at ts ls ms bs =
     let x = Row (place s 0 at) in
-    by_equal (row_number s ts bs) 0
-    (λ e. rw (one_step n x (pulses ts ls) bs, one_step n x (pulses ts ms) bs, eq-eqb (row_number s ts bs) 0 e))
-    (λ k. rw (
+    by_cause (row_fields_cause s ts bs)
+    (λ e. rw (one_step n x (pulses ts ls) bs, one_step n x (pulses ts ms) bs, none_of (row_fields_cause s ts bs) e))
+    (λ why e. rw (
       one_step n x (pulses ts ls) bs,
       one_step n x (pulses ts ms) bs,
-      ne_eqb (row_number s ts bs) 0 k,
+      e,
       nothing_more n (pulses ts ls) (drop (due_size x) bs),
       nothing_more n (pulses ts ms) (drop (due_size x) bs),
     ))
 
 -- the row lent for row 0 does not matter
 pub any_row : (n : ℕ) (p : Place) (ts us : Pulses) (bs : List ℕ) → steps_shown n (Start p) ts bs ≡ steps_shown n (Start p) us bs
-unfolding step_of stepped away
+unfolding step_of stepped away start_number
 any_row zero p ts us bs = unfold steps_shown in refl
 any_row (suc n) p ts us bs =
     let s = p.settings in
     let rest = drop (due_size (Start p)) bs in
-    by_equal (start_number s bs) 0
+    by_cause (start_cause s bs)
     (λ e. rw (one_step n (Start p) ts bs, one_step n (Start p) us bs, start_goes ts bs s p.offset e, start_goes us bs s p.offset e)
     (any_letters n s _ _ ts.letters us.letters rest))
-    (λ k. rw (
+    (λ why e. rw (
       one_step n (Start p) ts bs,
       one_step n (Start p) us bs,
-      start_away ts bs s p.offset (start_number s bs) refl k,
-      start_away us bs s p.offset (start_number s bs) refl k,
+      start_away ts bs s p.offset e,
+      start_away us bs s p.offset e,
       nothing_more n ts rest,
       nothing_more n us rest,
     ))
 
 -- a call that went was one that fits, and its text is the step's
-module _ (x : Wall) (part : List ℕ) (row : Pulses) (held : List ℕ) (at : ℕ) (answer : Answer) (next : Wall) (end : ℕ) (row_after : Pulses) (out : List ℕ)
+module _ (x : Wall) (part : List ℕ) (row : Pulses) (held : List ℕ) (at : ℕ) (answer : Option Went) (next : Wall) (end : ℕ) (row_after : Pulses) (out : List ℕ)
     (d : Stepping x part row held at answer row_after out) (e : wall_of answer ≡ some next) (f : end_of answer ≡ some end) where
   did_fit : fits x row (length held) at ≡ true
   unfolding wall_of
   did_fit =
       by_test (fits x row (length held) at)
       (λ t. t)
-      (λ t. let is : answer ≡ step.Unfit = rw t at d.answered in
+      (λ t. let is : answer ≡ None = rw t at d.answered in
       let none_some : none ≡ some next = sym (ap wall_of is) ∙ e in
       let never : ◌≡◌ {A = ℕ} 0 1 = cc in
       absurd (let g : ⊥ = omega arith in g))
 
-  its_answer : answer ≡ step.Went (went_to (step_of x row part) at)
+  its_answer : answer ≡ Some (went_to (step_of x row part) at)
   its_answer = rw did_fit at d.answered
 
   its_wall : next ≡ (step_of x row part).next
@@ -115,7 +115,7 @@ record Shows (x : Wall) (row : Pulses) (rest text : List ℕ) : Type 0 where
   pub steps : ℕ
   pub shows : (n : ℕ) → steps ≤ n → texts_of (steps_shown n x row rest) ≡ text
 
-one_more : {x : Wall} {row : Pulses} {rest text : List ℕ} (held : List ℕ) (at : ℕ) (answer : Answer) (next : Wall) (end : ℕ) (row_after : Pulses) (out : List ℕ) →
+one_more : {x : Wall} {row : Pulses} {rest text : List ℕ} (held : List ℕ) (at : ℕ) (answer : Option Went) (next : Wall) (end : ℕ) (row_after : Pulses) (out : List ℕ) →
     Stepping x (take (due_of x) rest) row held at answer row_after out → wall_of answer ≡ some next → end_of answer ≡ some end →
     Shows next row_after (drop (due_of x) rest) text → Shows x row rest (drop at (take end out) ++ text)
 one_more {x} {row} {rest} {text} held at answer next end row_after out d e f k = record { steps = suc k.steps; shows = go }

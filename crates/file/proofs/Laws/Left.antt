@@ -9,7 +9,7 @@ use Rattle.settings.specs.declared.Settings.{Settings}
 use Rattle.settings.proofs.Laws.Cases.{by_equal, by_order}
 use Rattle.row.specs.Row.{Pulses, row_of, letters_of}
 use Rattle.columns.proofs.Laws.Lists.{table_length}
-use Rattle.steps.specs.Number.{settings_number, start_number, row_number}
+use Rattle.steps.specs.Number.{settings_field_cause, settings_number, start_cause, start_number, row_fields_cause, row_number}
 use Rattle.stages.specs.Fit.{place, passes, width_of, wall_fits}
 use Rattle.steps.specs.Step.{stepped, away, after_row, step_of}
 use Rattle.file.specs.Program.{Left, new, lend, next}
@@ -19,7 +19,7 @@ use Rattle.stages.specs.declared.Wall.{Wall}
 use Rattle.stages.specs.declared.Wall.TheVariants.{New, Start, Row, End, Over}
 use Rattle.contents.proofs.Laws.Contents.{times_length}
 use Rattle.stages.proofs.Laws.{fit_of}
-use Rattle.steps.proofs.Laws.Taken.{settings_away, settings_goes, start_away, start_goes, row_away, row_goes, end_away, end_goes}
+use Rattle.steps.proofs.Laws.Taken.{by_cause, settings_away, settings_goes, start_away, start_goes, row_away, row_goes, end_away, end_goes}
 use Rattle.file.proofs.Laws.Stands.{step_stands, stands_fits}
 
 -- row 0 and the rows after it have W times, and room for W letters
@@ -39,21 +39,21 @@ unfolding after_row place
 after_long s l at row e = by_order s.rows l (λ i. rw (le-ltb l s.rows i) e) (λ i. rw (lt-ltb l s.rows i) e)
 
 step_long : (x : Wall) (row : Pulses) (bs : List ℕ) → wall_fits x (length row.letters) ≡ true → Long (step_of x row bs).next (step_of x row bs).row
-unfolding step_of stepped away row_of letters_of wall_fits
+unfolding step_of stepped away row_of letters_of wall_fits settings_number start_number row_number
 step_long New row bs f =
-    by_equal (settings_number bs) 0
+    by_cause (settings_field_cause bs)
     (λ e. rw (settings_goes row bs e) tt)
-    (λ k. rw (settings_away row bs (settings_number bs) refl k) tt)
+    (λ why e. rw (settings_away row bs e) tt)
 step_long (Start p) row bs f =
     let s = p.settings in
-    by_equal (start_number s bs) 0
+    by_cause (start_cause s bs)
     (λ e. rw (start_goes row bs s p.offset e) (unfold place in record { times = times_length s.width _; letters = (fit_of p (length row.letters) f).long }))
-    (λ k. rw (start_away row bs s p.offset (start_number s bs) refl k) tt)
+    (λ why e. rw (start_away row bs s p.offset e) tt)
 step_long (Row p) row bs f =
     let s = p.settings in
-    by_equal (row_number s row.times bs) 0
+    by_cause (row_fields_cause s row.times bs)
     (λ e. rw (row_goes row bs s p.offset p.row e) (after_long s _ _ _ (record { times = table_length _ s.width 0; letters = table_length _ s.width 0 })))
-    (λ k. rw (row_away row bs s p.offset p.row (row_number s row.times bs) _ refl k refl) tt)
+    (λ why e. rw (row_away row bs s p.offset p.row e) tt)
 step_long (End p) row bs f =
     by_equal (length bs) 0
     (λ e. rw (end_goes row bs p.settings p.offset p.row e) tt)

@@ -12,9 +12,9 @@ use Rattle.settings.specs.declared.Settings.{Settings}
 use Rattle.settings.proofs.Laws.Cases.{by_order}
 use Rattle.columns.specs.Marks.{mark_bytes}
 use Rattle.fields.specs.Bytes.{big_endian}
-use Rattle.fields.specs.Field.{field_tests, field_refusal, body}
+use Rattle.fields.specs.Field.{field_tests, field_cause, field_refusal, body}
 use Rattle.contents.specs.Contents.{settings_size, start_size, tiles_size, marks_field, row_size, marks_in, tiles_in, call_in}
-use Rattle.steps.specs.Number.{settings_number, start_number, row_number, row_offset}
+use Rattle.steps.specs.Number.{settings_field_cause, start_cause, row_fields_cause, row_offset}
 
 -- what is dropped of a part, and what is taken of the rest
 pub drop_take : {A : Type 0} (k n : ℕ) (l : List A) → drop k (take (k + n) l) ≡ take n (drop k l)
@@ -36,8 +36,8 @@ big_endian_part n (suc k) at bs i =
     rw (big_endian_part n k at bs (omega arith), get_or-take n bs (at + k) 0 (omega arith))
 
 module _ (tag size n : ℕ) (bs : List ℕ) (i : 3 + size ≤ n) where
-  pub field_part : field_refusal tag size (take n bs) ≡ field_refusal tag size bs
-  unfolding field_refusal field_tests
+  pub field_part : field_cause tag size (take n bs) ≡ field_cause tag size bs
+  unfolding field_cause field_tests
   field_part =
       rw (
         short_part n 3 bs (omega arith),
@@ -52,13 +52,13 @@ body_part size n bs i =
     let e : n ≡ 3 + (n - 3) = omega arith in
     rw (e, drop_take) (take-take size (n - 3) (drop 3 bs) (omega arith))
 
-pub settings_part : (bs : List ℕ) → settings_number (take (3 + settings_size) bs) ≡ settings_number bs
-unfolding settings_number
+pub settings_part : (bs : List ℕ) → settings_field_cause (take (3 + settings_size) bs) ≡ settings_field_cause bs
+unfolding settings_field_cause
 settings_part bs =
     rw (field_part 1 settings_size (3 + settings_size) bs (omega arith), body_part settings_size (3 + settings_size) bs (omega arith))
 
-pub start_part : (s : Settings) (bs : List ℕ) → start_number s (take (3 + start_size s.width) bs) ≡ start_number s bs
-unfolding start_number
+pub start_part : (s : Settings) (bs : List ℕ) → start_cause s (take (3 + start_size s.width) bs) ≡ start_cause s bs
+unfolding start_cause
 start_part s bs =
     let size = start_size s.width in
     rw (field_part 2 size (3 + size) bs (omega arith), body_part size (3 + size) bs (omega arith))
@@ -84,18 +84,18 @@ module _ (w : ℕ) (bs : List ℕ) where
   unfolding call_in
   call_part = rw (marks_part, tiles_part)
 
-  pub marks_field_part : field_refusal 3 (mark_bytes w) (take (row_size w) bs) ≡ field_refusal 3 (mark_bytes w) bs
+  pub marks_field_part : field_cause 3 (mark_bytes w) (take (row_size w) bs) ≡ field_cause 3 (mark_bytes w) bs
   marks_field_part = field_part 3 (mark_bytes w) (row_size w) bs marks_there
 
   pub tiles_field_part :
-      field_refusal 4 (tiles_size w) (drop (marks_field w) (take (row_size w) bs)) ≡ field_refusal 4 (tiles_size w) (drop (marks_field w) bs)
+      field_cause 4 (tiles_size w) (drop (marks_field w) (take (row_size w) bs)) ≡ field_cause 4 (tiles_size w) (drop (marks_field w) bs)
   tiles_field_part = rw tiles_rest (field_part 4 (tiles_size w) (3 + tiles_size w) (drop (marks_field w) bs) (omega arith))
 
 module _ (s : Settings) (bs : List ℕ) where
-  pub row_part : (ts : List ℕ) → row_number s ts (take (row_size s.width) bs) ≡ row_number s ts bs
-  unfolding row_number
+  pub row_part : (ts : List ℕ) → row_fields_cause s ts (take (row_size s.width) bs) ≡ row_fields_cause s ts bs
+  unfolding row_fields_cause
   row_part ts = rw (marks_field_part s.width bs, tiles_field_part s.width bs, call_part s.width bs)
 
   pub offset_part : (at : ℕ) → row_offset s at (take (row_size s.width) bs) ≡ row_offset s at bs
-  unfolding row_offset
+  unfolding row_offset field_refusal
   offset_part at = rw (marks_field_part s.width bs)

@@ -5,9 +5,9 @@ use Prim.Native.Nat.{ℕ, zero, suc, ◌+◌, ◌*◌, ◌≤◌, ◌<◌}
 use lib.ListN.{length, get_or, drop}
 use native.Mathlib.Omega.{arith}
 use borrow.Author.Tests.{eq-eqb, ne_eqb}
+use Rattle.settings.proofs.Laws.Refusal.{numbered, none_of, unhit_given}
 use Rattle.settings.specs.Settings.{settings_refusal}
 use Rattle.settings.specs.declared.Settings.{Settings}
-use Rattle.settings.proofs.Laws.Cases.{by_equal}
 use Rattle.settings.proofs.Laws.Settings.{limits}
 use Rattle.admission.specs.Call.{Call, call}
 use Rattle.row.specs.Row.{Pulses, row_of, next_pulses}
@@ -17,13 +17,13 @@ use Rattle.admission.specs.Refusal.{row_refusal}
 use Rattle.runs.specs.Run.{accepted_calls, rows}
 use Rattle.columns.proofs.Laws.Lists.{table_length, table_at}
 use Rattle.runs.proofs.Promises.{pulse_grows}
-use Rattle.fields.specs.Field.{field_refusal}
+use Rattle.fields.specs.Field.{field_cause}
 use Rattle.contents.specs.Contents.{tiles_size, marks_field, row_size, marks_in, call_in}
 use Rattle.steps.specs.Shown.{Shown, row_shown, number_shown}
-use Rattle.steps.specs.Number.{row_number}
-use Rattle.file.specs.File.{rows_shown}
+use Rattle.steps.specs.Number.{row_fields_cause, row_number}
+use Rattle.steps.proofs.Laws.Taken.{by_cause}
+use Rattle.file.specs.File.{or_shown, rows_shown}
 use Rattle.file.specs.Limits.{calls_in, RowsKeep, over, and_then, run_shown}
-use Rattle.fields.proofs.Laws.Field.{else_none}
 use Rattle.file.proofs.Laws.Limits.{Early, keeps, kept}
 
 -- row l is at most l times 2,187,500 ticks after the latest row 0 time
@@ -54,16 +54,16 @@ grows {s} {l} {ts} x g e =
 
 -- an accepted row of a file is an accepted call
 pub call_accepted : (s : Settings) (ts bs : List ℕ) → row_number s ts bs ≡ 0 → row_refusal s ts (call_in s.width bs) ≡ 0
-unfolding row_number
+unfolding row_number row_fields_cause row_refusal
 call_accepted s ts bs e =
-    (else_none (field_refusal 4 (tiles_size s.width) (drop (marks_field s.width) bs)) _
-    (else_none (field_refusal 3 (mark_bytes s.width) bs) _ e).1).1
+    (unhit_given (field_cause 4 (tiles_size s.width) (drop (marks_field s.width) bs)) _
+    (unhit_given (field_cause 3 (mark_bytes s.width) bs) _ e).1).1
 
 -- rows that keep their limits are a run, shown whole
 module _ (s : Settings) where
   pub rows_accepted : (n l at : ℕ) (r : Pulses) (bs : List ℕ) → RowsKeep s n bs → Grown s l r.times → l + n ≤ 1024 →
       rows_shown s n l at r bs ≡ run_shown s l (calls_in s.width n bs) r (rows s (calls_in s.width n bs) r.times)
-  unfolding rows_shown calls_in run_shown rows call_in call
+  unfolding rows_shown or_shown row_number calls_in run_shown rows call_in call
   rows_accepted zero l at r bs over g i = refl
   rows_accepted (suc n) l at r bs (and_then k rest) g i =
       let ts = r.times in
@@ -71,7 +71,7 @@ module _ (s : Settings) where
       let e = keeps s ts (early_of g (omega arith)) bs k in
       let a = call_accepted s ts bs e in
       rw (
-        eq-eqb (row_number s ts bs) 0 e,
+        none_of (row_fields_cause s ts bs) e,
         eq-eqb (row_refusal s ts x) 0 a,
         rows_accepted n (suc l) (at + row_size s.width) (next_pulses s ts x) (drop (row_size s.width) bs) rest (grows x g a) (omega arith),
       )
@@ -99,15 +99,15 @@ number_alone s (suc l) ms r = refl
 -- rows that are not turned away keep their limits
 module _ (s : Settings) where
   pub rows_kept : (n l at : ℕ) (r : Pulses) (bs : List ℕ) → number_shown (rows_shown s n l at r bs) ≡ 0 → Grown s l r.times → l + n ≤ 1024 → RowsKeep s n bs
-  unfolding rows_shown number_shown
+  unfolding rows_shown or_shown number_shown row_number
   rows_kept zero l at r [] e g i = over
   rows_kept zero l at r (b ∷ bs) e g i =
       let never : ⊥ = omega (arith, rw (ne_eqb (length (b ∷ bs)) 0 (omega arith)) at e) in absurd never
   rows_kept (suc n) l at r bs e g i =
       let ts = r.times in
-      by_equal (row_number s ts bs) 0
+      by_cause (row_fields_cause s ts bs)
       (λ q. let x = call_in s.width bs in
-      let rest = rw (eq-eqb (row_number s ts bs) 0 q, number_after s l (marks_in s.width bs) r) at e in
+      let rest = rw (none_of (row_fields_cause s ts bs) q, number_after s l (marks_in s.width bs) r) at e in
       and_then (kept s ts (early_of g (omega arith)) bs q)
       (rows_kept n (suc l) (at + row_size s.width) (next_pulses s ts x) (drop (row_size s.width) bs) rest (grows x g (call_accepted s ts bs q)) (omega arith)))
-      (λ q. absurd (q (rw (ne_eqb (row_number s ts bs) 0 q) at e)))
+      (λ why q. absurd (numbered why (rw q at e)))

@@ -6,23 +6,20 @@ use mathlib.Core.Option.{some}
 use Prim.Native.Nat.{ℕ, zero, suc, ◌+◌, ◌≤◌}
 use lib.ListN.{length, take, drop}
 use native.Mathlib.Omega.{arith}
-use borrow.Author.Tests.{ne_eqb}
-use Rattle.settings.proofs.Laws.Cases.{by_equal}
+use Rattle.std.specs.Prelude.{Option, Some, None, Result}
 use Rattle.row.specs.Row.{Pulses}
 use Rattle.stages.specs.Fit.{due_of, wall_fits}
 use Rattle.stages.specs.declared.Wall.{Wall}
 use Rattle.stages.specs.declared.Wall.TheVariants.{New, Start, Row, End, Over}
 use Rattle.stages.proofs.Laws.{fits_due}
-use Rattle.steps.specs.Answer.{wall_of, number_due, wall_then, row_then}
+use Rattle.steps.specs.Answer.{wall_of, cause_due, number_due, wall_then, row_then}
 use Rattle.steps.specs.Shown.{Shown}
 use Rattle.steps.specs.Step.{stepped, away, step_of, steps_shown}
-use Rattle.steps.specs.Take.{taken, taken_of, step_from, next_row, Takes}
-use Rattle.steps.specs.declared.Taken.{Taken}
-use Rattle.steps.specs.declared.Answer.{Answer}
-use Rattle.steps.specs.declared.Answer.TheVariants as answer
+use Rattle.steps.specs.Take.{refused_at, taken_of, step_from, next_row, Takes}
+use Rattle.steps.specs.declared.RefusedAt.{RefusedAt}
 use Rattle.steps.proofs.Laws.Answer.{step_goes, step_away, taken_goes, taken_gone, row_goes_on, taken_same}
 use Rattle.steps.proofs.Laws.Fit.{fit_all}
-use Rattle.steps.proofs.Laws.Taken.{TakenStep, taken_step}
+use Rattle.steps.proofs.Laws.Taken.{by_cause, TakenStep, taken_step}
 use Rattle.file.specs.File.{shown}
 use Rattle.file.specs.Takes as specs
 use Rattle.file.specs.Takes.{call_shows, lent_next, TakeCalls}
@@ -51,26 +48,30 @@ from_lent (End p) row part held m rest = refl
 from_lent Over row part held m rest = refl
 
 -- a call that took a step shows what the step shows, and the next goes on from there
-module _ (x : Wall) (row : Pulses) (part : List ℕ) (held next : Pulses) (t : Taken) (k : TakenStep x part row.times held t next) where
+module _ (x : Wall) (row : Pulses) (part : List ℕ) (held next : Pulses) (t : Result Wall RefusedAt) (k : TakenStep x part row.times held t next) where
   -- the answer is that of the step from the row with its own letters
   is_taken : t ≡ taken_of (step_of x row part)
   unfolding step_from
   is_taken = k.is ∙ taken_same x row.times part held.letters row.letters
 
-  shows_is : call_shows x row part (answer.Taken t) ≡ (step_of x row part).shows
-  unfolding call_shows taken stepped away
+  shows_is : call_shows x row part (Some t) ≡ (step_of x row part).shows
+  unfolding call_shows refused_at stepped away number_due
   shows_is =
-      by_equal (number_due x row.times part) 0
+      by_cause (cause_due x row.times part)
       (λ e. rw (is_taken ∙ taken_goes row part x e, step_goes row part x e))
-      (λ n. rw (is_taken ∙ taken_gone row part x n, step_away row part x n, ne_eqb (number_due x row.times part) 0 n))
+      (λ why e. rw (is_taken ∙ taken_gone row part x e, step_away row part x e))
 
-  goes_on : (m : ℕ) (rest : List ℕ) →
-      steps_shown m (step_of x row part).next (step_of x row part).row rest ≡ steps_shown m t.wall (lent_next x row next) rest
-  unfolding taken stepped away
-  goes_on m rest =
-      by_equal (number_due x row.times part) 0
-      (λ e. rw (is_taken ∙ taken_goes row part x e, step_goes row part x e, lent_is x row part held next k.written e) (from_lent x row part held m rest))
-      (λ n. rw (is_taken ∙ taken_gone row part x n, step_away row part x n, nothing_more m row rest) (sym (nothing_more m (lent_next x row next) rest)))
+  goes_on : (y : Wall) → wall_of (Some t) ≡ some y → (m : ℕ) (rest : List ℕ) →
+      steps_shown m (step_of x row part).next (step_of x row part).row rest ≡ steps_shown m y (lent_next x row next) rest
+  unfolding wall_of refused_at stepped away number_due
+  goes_on y is m rest =
+      by_cause (cause_due x row.times part)
+      (λ e. let w : some (wall_then x part) ≡ some y = rw (is_taken ∙ taken_goes row part x e) at is in
+      let same : wall_then x part ≡ y = cc in
+      rw (← same, step_goes row part x e, lent_is x row part held next k.written e) (from_lent x row part held m rest))
+      (λ why e. let w : some Over ≡ some y = rw (is_taken ∙ taken_gone row part x e) at is in
+      let same : Over ≡ y = cc in
+      rw (← same, step_away row part x e, nothing_more m row rest) (sym (nothing_more m (lent_next x row next) rest)))
 
 -- what one step shows and those after it
 step_then : (m : ℕ) (x : Wall) (n : ℕ) (row : Pulses) (rest : List ℕ) → wall_fits x n ≡ true →
@@ -84,13 +85,13 @@ record Shows (x : Wall) (row : Pulses) (rest : List ℕ) (shows : List Shown) : 
   pub steps : ℕ
   pub is : (n : ℕ) → steps ≤ n → steps_shown n x row rest ≡ shows
 
-one_more : {x : Wall} {row : Pulses} {rest : List ℕ} {shows : List Shown} (held : Pulses) (a : Answer) (y : Wall) (next : Pulses) →
+one_more : {x : Wall} {row : Pulses} {rest : List ℕ} {shows : List Shown} (held : Pulses) (a : Option (Result Wall RefusedAt)) (y : Wall) (next : Pulses) →
     Takes x (take (due_of x) rest) row.times held a next → wall_of a ≡ some y → Shows y (lent_next x row next) (drop (due_of x) rest) shows →
     Shows x row rest (call_shows x row (take (due_of x) rest) a ++ shows)
 unfolding wall_of
-one_more {x} {row} {rest} {shows} held answer.Unfit y next d e k =
+one_more {x} {row} {rest} {shows} held None y next d e k =
     let never : ◌≡◌ {A = ℕ} 0 1 = cc in absurd (let g : ⊥ = omega arith in g)
-one_more {x} {row} {rest} {shows} held (answer.Taken t) y next d e k = record { steps = suc k.steps; is = go }
+one_more {x} {row} {rest} {shows} held (Some t) y next d e k = record { steps = suc k.steps; is = go }
   where
     part : List ℕ
     part = take (due_of x) rest
@@ -98,13 +99,12 @@ one_more {x} {row} {rest} {shows} held (answer.Taken t) y next d e k = record { 
     s : TakenStep x part row.times held t next
     s = taken_step d refl
 
-    go : (n : ℕ) → suc k.steps ≤ n → steps_shown n x row rest ≡ call_shows x row part (answer.Taken t) ++ shows
+    go : (n : ℕ) → suc k.steps ≤ n → steps_shown n x row rest ≡ call_shows x row part (Some t) ++ shows
     go zero j = let never : ⊥ = omega arith in absurd never
     go (suc m) j =
-        let wall : t.wall ≡ y = cc in
         step_then m x (length row.times) row rest (fit_all x (length row.times) held s.fits).0
         ∙ ap (λ (l : List Shown). (step_of x row part).shows ++ l)
-        (goes_on x row part held next t s m (drop (due_of x) rest) ∙ rw wall (k.is m (omega arith)))
+        (goes_on x row part held next t s y e m (drop (due_of x) rest) ∙ k.is m (omega arith))
         ∙ ap (λ (l : List Shown). l ++ shows) (sym (shows_is x row part held next t s))
 
 shows : {x : Wall} {row : Pulses} {rest : List ℕ} {shows : List Shown} → TakeCalls x row rest shows → Shows x row rest shows

@@ -1,9 +1,10 @@
 -- `step_brought` meets its contract. Assumes nothing.
 use mathlib.Core.Path.{◌≡◌, sym, ◌∙◌, ap}
 use mathlib.Core.Bool.{true}
+use mathlib.Core.Logic.{inl, inr}
 use mathlib.Core.List.{List}
 use Prim.Native.Nat.{ℕ, ◌+◌, ◌/◌, ◌≤◌}
-use lib.ListN.{length, take, replicate}
+use lib.ListN.{take, replicate}
 use lib.Seq.{length-take-le}
 use native.Mathlib.Omega.{arith}
 use Rattle.settings.proofs.Laws.Settings.{limits}
@@ -49,11 +50,11 @@ slice_bounds-row_brought-end c = sym (length-take-le _ _ (narrow (fits_end c.req
 
 pub returns-in-New : goal.returns-in-New
 unfolding step_brought
-returns-in-New c = rw c.in-New.is
-
-pub returns-in-Start : goal.returns-in-Start
-unfolding step_brought
-returns-in-Start c = rw c.in-Start.is
+returns-in-New c = elim c.in-New.is [
+  | inl e ↦ rw e
+  | inr (inl (p, e)) ↦ rw e
+  | inr (inr e) ↦ rw e
+]
 
 pub returns-in-Row : goal.returns-in-Row
 unfolding step_brought
@@ -63,7 +64,3 @@ returns-in-Row c = let a = c.args in
 pub returns-in-End : goal.returns-in-End
 unfolding step_brought
 returns-in-End c = rw (c.in-End.is, ← none_set (fits_end c.requires c.in-End.is)) c.row_brought-in-End.ensures
-
-pub returns-in-Over : goal.returns-in-Over
-unfolding step_brought
-returns-in-Over c = rw c.in-Over.is

@@ -4,11 +4,14 @@ use mathlib.Core.List.{List, []}
 use mathlib.Core.Logic.{◌⊎◌, inl, inr}
 use mathlib.Core.Option.{Option, none, some}
 use Prim.Native.Nat.{ℕ}
+use Rattle.std.specs.Prelude as prelude
+use Rattle.std.specs.Prelude.{Some, None}
+use Rattle.settings.specs.declared.refusal.Refusal.{Refusal}
 use Rattle.lines.specs.Line.{refused_line}
 use Rattle.row.specs.Row.{pulses}
 use Rattle.stages.specs.declared.Wall.{Wall}
 use Rattle.stages.specs.declared.Wall.TheVariants.{New, Start, Row, End, Over}
-use Rattle.steps.specs.Answer.{number_due, offset_due, wall_then, shown_then}
+use Rattle.steps.specs.Answer.{cause_due, number_due, offset_due, wall_then, shown_then}
 use Rattle.steps.specs.Step.{stepped, away, step_of}
 use Rattle.steps.proofs.Laws.Answer.{step_goes, step_away}
 use Rattle.told.specs.Telling.{says}
@@ -17,8 +20,12 @@ use Rattle.found.specs.Finding.{found_then, finding}
 
 module _ (n : ℕ) (x : Wall) (m : ℕ) (ts bs : List ℕ) where
   pub told_away : (number_due x ts bs ≡ 0 → ⊥) → finding n x m ts bs ≡ says Over m (refused_line (number_due x ts bs) (offset_due x bs))
-  unfolding finding found_then found away stepped answer_text
-  told_away k = rw (step_away (pulses ts []) bs x k) refl
+  unfolding finding found_then found away stepped answer_text number_due
+  told_away k = go (cause_due x ts bs) refl
+    where
+      go : (c : prelude.Option Refusal) → cause_due x ts bs ≡ c → finding n x m ts bs ≡ says Over m (refused_line (number_due x ts bs) (offset_due x bs))
+      go None e = absurd (k (rw e))
+      go (Some why) e = rw (step_away (pulses ts []) bs x e, e)
 
   pub told_on : number_due x ts bs ≡ 0 → finding n x m ts bs ≡ found_then x (wall_then x bs) m (found n (shown_then x (pulses ts []) bs))
   unfolding finding stepped

@@ -1,22 +1,18 @@
 -- No row of a wall file has a seam that is turned away. Assumes nothing.
-use mathlib.Core.Path.{◌≡◌, refl, sym, ◌∙◌, ap}
+use mathlib.Core.Path.{◌≡◌}
 use mathlib.Core.Bool.{Bool, true, false}
-use mathlib.Core.List.{List}
-use Prim.Native.Nat.{ℕ, suc, ◌+◌, ◌≤◌, ◌<◌}
+use Prim.Native.Nat.{ℕ, suc, ◌≤◌, ◌<◌}
 use native.Mathlib.Omega.{arith}
-use lib.ListN.{get_or}
 use Rattle.settings.proofs.Laws.Cases.{by_order, by_equal}
 use Rattle.columns.specs.Columns.{are_neighbours}
-use Rattle.columns.specs.Marks.{marked}
 use Rattle.columns.proofs.Laws.Columns.{next, first_third, third_last}
-use Rattle.row.specs.Row.{Pulses}
-use Rattle.seam.specs.Seam.{latest, seam_of, number_of}
+use Rattle.settings.specs.Refusal.{number_in}
+use Rattle.seam.specs.Seam.{latest, seam_of}
 use Rattle.seam.proofs.Laws.{over_late, refused_left, refused_right}
 use Rattle.places.specs.Seams.{seam_left, seam_right}
 use Rattle.places.proofs.Laws.Seams.{left_first, left_inner, left_last, right_first, right_inner, right_last}
 use Rattle.steps.specs.Shown.{Shown, lines, turned_away}
 use Rattle.file.specs.Promises.{SeamsHold}
-use Rattle.wide.specs.Wide.{row_first}
 use Rattle.wide.specs.Promises.{InTime}
 use Rattle.wide.proofs.Laws.First.{all}
 use Rattle.found.specs.Promises.{NotLate}
@@ -43,13 +39,11 @@ beside w i six j =
     made e f p q n = record { left = omega (arith, e, p); right = omega (arith, f, q); neighbours = n }
 
 -- a seam that is not turned away is in time
-early_left : (l r : ℕ) (lf rf : Bool) → number_of (seam_of l lf r rf) ≡ 0 → lf ≡ false → l ≤ latest
-unfolding number_of
+early_left : (l r : ℕ) (lf rf : Bool) → number_in (seam_of l lf r rf) ≡ 0 → lf ≡ false → l ≤ latest
 early_left l r lf rf e f =
     by_order l latest (λ i. i) (λ i. let z = rw (f, refused_left l false r rf (over_late l i)) at e in let never : ⊥ = omega (arith, z) in absurd never)
 
-early_right : (l r : ℕ) (lf rf : Bool) → number_of (seam_of l lf r rf) ≡ 0 → rf ≡ false → r ≤ latest
-unfolding number_of
+early_right : (l r : ℕ) (lf rf : Bool) → number_in (seam_of l lf r rf) ≡ 0 → rf ≡ false → r ≤ latest
 early_right l r lf rf e f =
     by_order r latest (λ i. i) (λ i. let z = rw (f, refused_right l lf r false (over_late r i)) at e in let never : ⊥ = omega (arith, z) in absurd never)
 

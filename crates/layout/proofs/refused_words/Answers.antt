@@ -5,4 +5,4 @@ use Rattle.layout.proofs.refused_words.Goals as goal
 
 pub returns : goal.returns
 unfolding refused_words place
-returns c = c.place_words.ensures
+returns c = rw c.from.ensures at c.place_words.ensures

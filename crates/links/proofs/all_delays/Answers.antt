@@ -1,35 +1,23 @@
 -- `all_delays` meets its contract: each value adds its two numbers to the bits that are gathered. Assumes nothing.
-use Rattle.std.proofs.Common.{arith, leb-true}
+use Rattle.std.proofs.Common.{◌≡◌, ◌+◌, ◌-◌, get_or, take, drop, length, arith, leb-true}
+use Rattle.std.proofs.lemmas.Grind.{common_steps}
 use Rattle.links.specs.Delays.{Delays}
 use Rattle.links.proofs.Laws.Delays.{top_clear, gathered_more}
 use Rattle.links.proofs.all_delays.Goals as goal
 
-pub overflow_sub-room : goal.overflow_sub-room
-overflow_sub-room c = omega (arith, c.requires.1)
+pub loop-value-init : goal.loop-value-init
+loop-value-init c = λ k i j e. let never : ⊥ = omega arith in absurd never
 
-pub loop-n-init : goal.loop-n-init
-loop-n-init c = (omega arith, λ k i j e. let never : ⊥ = omega arith in absurd never)
-
-pub overflow_add-value : goal.overflow_add-value
-overflow_add-value c = omega (arith, c.loop-n-test.true, c.requires.2)
-
-pub bounds-links-from : goal.bounds-links-from
-bounds-links-from c = omega (arith, c.loop-n-test.true, c.requires.2)
-
-pub overflow_add-n : goal.overflow_add-n
-overflow_add-n c = omega (arith, c.loop-n-test.true)
-
-pub loop-n-smaller : goal.loop-n-smaller
-loop-n-smaller c = omega (arith, c.loop-n-test.true)
-
-pub loop-n-preserved : goal.loop-n-preserved
-loop-n-preserved c = let a = c.args in (
-  omega (arith, c.loop-n-test.true),
-  gathered_more a.shortest a.longest a.links.now a.from c.loop-n.n c.loop-n.bits c.wrapping_sub_u64-below.result c.wrapping_add_u64-above.result
-      c.requires.0 (omega (arith, c.requires.1)) c.loop-n.invariant.1 (omega arith) c.wrapping_sub_u64-below.ensures.value c.wrapping_add_u64-above.ensures.value,
-)
+pub loop-value-preserved : goal.loop-value-preserved
+loop-value-preserved c = let a = c.args in
+    let n = c.loop-value.value-index in
+    let here : get_or (take (a.from + 24 - a.from) (drop a.from a.links.now)) n 0 ≡ get_or a.links.now (a.from + n) 0 = grind (arith, common_steps) in
+    rw here
+    (gathered_more a.shortest a.longest a.links.now a.from n c.loop-value.bits c.requires.0 (omega (arith, c.requires.1)) (c.type_inv.links (a.from + n)).fits c.loop-value.invariant)
 
 pub returns : goal.returns
 unfolding Delays
 returns c = λ e k i j.
-    c.loop-n.invariant.1 k i (omega (arith, c.loop-n-test.false)) (leb-true c.loop-n.bits top_clear e)
+    let a = c.args in
+    let all : length (take (a.from + 24 - a.from) (drop a.from a.links.now)) ≡ 24 = grind (arith, common_steps) in
+    c.loop-value.invariant k i (omega (arith, all)) (leb-true c.loop-value.bits top_clear e)

@@ -4,7 +4,7 @@ use native.Mathlib.Omega.{arith}
 use Rattle.row.specs.Row.{pulses}
 use Rattle.stages.specs.Fit.{due_of}
 use Rattle.file.proofs.Laws.Stands.{none_due}
-use Rattle.stream.proofs.Laws.State.{ready_on, ready_off, ready_between}
+use Rattle.stream.proofs.Laws.State.{ready_between}
 use Rattle.stream.proofs.Laws.Run as run
 use Rattle.asked.proofs.Laws.Onward.{ahead}
 use Rattle.pass.proofs.run.Goals as goal
@@ -27,14 +27,14 @@ returns-then-due-eq0 g c =
 pub advance-going-requires : goal.advance-going-requires
 advance-going-requires g c =
     let i = c.loop-asked.invariant in
-    let made = ready_on _ _ _ _ _ _ c.in-On.is c.ready.ensures in
+    let made = c.in-Ok.ensures in
     (c.requires, ready_between _ _ _ _ _ i.5.between made, omega (arith, i.2), omega (arith, i.3), omega (arith, i.4), made.room)
 
 pub loop-asked-smaller : goal.loop-asked-smaller
 loop-asked-smaller g c =
     let at = c.loop-asked in
     let some : due_of at.state.wall ≡ 0 → ⊥ = λ e. c.if-due-eq0.false (c.due-due.ensures.due ∙ e) in
-    let made = ready_on _ _ _ _ _ _ c.in-On.is c.ready.ensures in
+    let made = c.in-Ok.ensures in
     run.turn_less _ 0 (ahead _ _) _ _ _ _ _ _ _ _ _ _ _ some at.invariant.5 made c.advance-going.ensures
 
 pub loop-asked-preserved : goal.loop-asked-preserved
@@ -43,7 +43,7 @@ loop-asked-preserved g c =
     let i = at.invariant in
     let kept = c.advance-going.auto in
     let some : due_of at.state.wall ≡ 0 → ⊥ = λ e. c.if-due-eq0.false (c.due-due.ensures.due ∙ e) in
-    let made = ready_on _ _ _ _ _ _ c.in-On.is c.ready.ensures in (
+    let made = c.in-Ok.ensures in (
       c.ready.auto.input ∙ i.0,
       kept.output ∙ i.1,
       kept.links ∙ i.2,
@@ -52,12 +52,12 @@ loop-asked-preserved g c =
       run.turn_standing _ 0 (ahead _ _) _ _ _ _ _ _ _ _ _ _ _ some i.5 made c.advance-going.ensures,
     )
 
-pub returns-in-Stop : goal.returns-in-Stop
-returns-in-Stop g c =
+pub returns-in-Err : goal.returns-in-Err
+returns-in-Err g c =
     let at = c.loop-asked in
     record {
       keeps = at.kept;
       lent = pulses at.row at.letters;
       output = at.output;
-      ends = run.stopped _ 0 _ _ _ _ _ _ (ready_off _ _ _ _ _ _ c.in-Stop.is c.ready.ensures) at.invariant.5;
+      ends = run.stopped _ 0 _ _ _ _ _ c.in-Err.failed at.invariant.5;
     }

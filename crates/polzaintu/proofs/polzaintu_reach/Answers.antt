@@ -1,9 +1,11 @@
 -- `polzaintu_reach` meets its contract. Assumes nothing.
 use mathlib.Core.Path.{◌∙◌}
+use Rattle.calls.specs.Answers.{reach_number, reach_left}
 use Rattle.polzaintu.proofs.polzaintu_reach.Goals as goal
 
 pub returns : goal.returns
+unfolding reach_number reach_left
 returns c = record {
-  number = c.reach_left.ensures.number ∙ rw (c.reach-reached.ensures, c.settings_in.ensures);
-  range = c.reach_left.ensures.range ∙ rw (c.reach-reached.ensures, c.settings_in.ensures);
+  number = c.left_within.ensures.number ∙ rw (c.reach-reached.ensures, c.settings_in.ensures);
+  range = c.left_within.ensures.lent ∙ rw (c.reach-reached.ensures, c.settings_in.ensures);
 }

@@ -17,9 +17,10 @@ module _ {P : (own a b : ℕ) → Type 0} where
   arranged_map Q (suc zero) x y z g h p = h y x z p
   arranged_map Q (suc (suc n)) x y z g h p = h z x y p
 
-  pub arranged_same : {A : Type 0} {v : A} (n x y z : ℕ) (f : (own a b : ℕ) → A) → ((own a b : ℕ) → P own a b → f own a b ≡ v) →
-      arranged n P x y z → arranged n f x y z ≡ v
-  unfolding arranged
-  arranged_same zero x y z f h p = h x y z p
-  arranged_same (suc zero) x y z f h p = h y x z p
-  arranged_same (suc (suc n)) x y z f h p = h z x y p
+-- what holds wherever own stands holds of own and the others as they are taken out
+pub taken : (P : (own a b : ℕ) → Type 0) {o a b : ℕ} (n x y z : ℕ) →
+    arranged n (λ own c d. (o ≡ own) × (a ≡ c) × (b ≡ d)) x y z → arranged n P x y z → P o a b
+unfolding arranged
+taken P zero x y z e p = rw (e.0, e.1, e.2) p
+taken P (suc zero) x y z e p = rw (e.0, e.1, e.2) p
+taken P (suc (suc n)) x y z e p = rw (e.0, e.1, e.2) p

@@ -7,13 +7,14 @@ use lib.ListN.{length}
 use native.Mathlib.Omega.{arith}
 use borrow.Author.Tests.{le-ltb}
 use Rattle.settings.specs.Refusal.{any_below}
-use Rattle.settings.specs.Settings.{settings_refusal}
+use Rattle.settings.specs.Settings.{settings_cause, settings_refusal}
+use Rattle.settings.specs.declared.refusal.Refusal.TheVariants as why
 use Rattle.rule.specs.Signed.{natural}
 use Rattle.rule.specs.Stamp.{Stamp, heard, silent, All, none, more, unheard_of, unheard_in, latest_stamp}
-use Rattle.tile.specs.Tile.{silent_at, reading_at, stamp_from, stamp_at, late_from, late_at, count_silent, silences, stamp_tests, tile_tests, tile_refusal, own_stamp, neighbour_places, neighbour_stamps}
+use Rattle.tile.specs.Tile.{silent_at, reading_at, stamp_from, stamp_at, late_from, late_at, count_silent, silences, stamp_tests, tile_tests, tile_cause, tile_refusal, own_stamp, neighbour_places, neighbour_stamps}
 use Rattle.settings.specs.declared.Settings.{Settings}
 use Rattle.tile.specs.declared.Stamps.{Stamps}
-use Rattle.settings.proofs.Laws.Refusal.{skip, skip_given, end, within}
+use Rattle.settings.proofs.Laws.Refusal.{skip, skip_given, end, no_number, within}
 use Rattle.rule.proofs.Laws.Stamp.{By, heard_by, unheard}
 use Rattle.pulse.specs.Tiles.{reading_of, silence_of, stamps_of}
 
@@ -44,12 +45,13 @@ module _ (s : Settings) (ok : settings_refusal s ≡ 0) (own : Stamp) (own_by : 
 
   -- then no number applies
   clear : (x : Stamps) → 2 ≤ x.count → x.count ≤ 3 → any_below (suc x.count) (late_at x) ≡ false → silences x (suc x.count) ≤ 1 → tile_refusal s x ≡ 0
-  unfolding tile_refusal tile_tests stamp_tests
+  unfolding tile_refusal tile_cause tile_tests stamp_tests settings_refusal
   clear x i j late few =
-      skip_given (settings_refusal s) _ ok
-      ∙ skip 11 _ (within 2 3 x.count i j)
-      ∙ skip 12 _ late
-      ∙ end 13 (le-ltb 1 (silences x (suc x.count)) few)
+      no_number _
+      (skip_given (settings_cause s) _ ok
+      ∙ skip why.Neighbours _ (within 2 3 x.count i j)
+      ∙ skip why.Stamp _ late
+      ∙ end why.Silences (le-ltb 1 (silences x (suc x.count)) few))
 
   pub two_accepted : (a b : Stamp) → By latest_stamp a → By latest_stamp b → unheard_of own + unheard_in (a ∷ b ∷ []) ≤ 1 →
       tile_refusal s (stamps_of own (a ∷ b ∷ [])) ≡ 0

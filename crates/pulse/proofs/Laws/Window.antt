@@ -8,19 +8,18 @@ use Rattle.settings.specs.Settings.{step_of}
 use Rattle.settings.specs.declared.Settings.{Settings}
 use Rattle.settings.proofs.Laws.Settings.{limits}
 use Rattle.rule.specs.Stamp.{code_of}
-use Rattle.rule.specs.Closed.{Forwardable}
 use Rattle.columns.specs.Columns.{neighbours, links_before}
 use Rattle.columns.specs.Window.{first_sender, four_senders}
 use Rattle.admission.specs.Call.{Call}
 use Rattle.admission.proofs.Laws.Accepted.{Accepted}
-use Rattle.pulse.specs.Pulse.{clock_of, stamp, pulsed_at}
+use Rattle.pulse.specs.Pulse.{clock_of, stamp}
 use Rattle.pulse.specs.Pulsed.{pulsed}
 use Rattle.pulse.specs.declared.Pulsed.{Pulsed}
 use Rattle.pulse.specs.Stampable.{Stampable, stamped}
 use Rattle.pulse.specs.Arranged.{arranged}
-use Rattle.pulse.proofs.Laws.Arranged.{arranged_map, arranged_same}
-use Rattle.pulse.proofs.Laws.Senders.{Sender, sender, fourth, placed, own_in, own_of_four}
-use Rattle.pulse.proofs.Laws.Stampable.{stampable, code, Pulsing, pulse_two, pulse_three, ready_at, pulses_at}
+use Rattle.pulse.proofs.Laws.Arranged.{arranged_map, taken}
+use Rattle.pulse.proofs.Laws.Senders.{Sender, sender, fourth, placed, own_in}
+use Rattle.pulse.proofs.Laws.Stampable.{stampable, code, Pulsing, pulse_two, pulse_three}
 
 -- a tile of an accepted row, and the first column and first link of its window
 pub record Found (s : Settings) (ts : List ℕ) (x : Call) (c k p : ℕ) : Type 0 where
@@ -67,9 +66,6 @@ module _ {s : Settings} {ts : List ℕ} {x : Call} {c k p : ℕ} (t : Found s ts
   pub own_after : k ≤ c
   own_after = omega (arith, t.from, own_in s.width c wide t.here)
 
-  pub own_not_first : four_senders s.width c ≡ true → 0 < c - k
-  own_not_first f = omega (arith, t.from, own_of_four s.width c wide t.here f)
-
   own_placed : arranged (c - k) (λ own a b. (own ≡ c) × (neighbours s.width c ≡ a ∷ b ∷ cond (four_senders s.width c) ((k + 3) ∷ []) [])) (k + 0) (k + 1) (k + 2)
   own_placed = rw t.from (placed s.width c wide t.here)
 
@@ -80,40 +76,22 @@ module _ {s : Settings} {ts : List ℕ} {x : Call} {c k p : ℕ} (t : Found s ts
     pub second : v ≡ read 1
     pub third : z ≡ read 2
 
-  module _ {j u v z : ℕ} (h : Stamps j u v z) where
-    -- what holds of the stamps of own and of the neighbours holds wherever own stands
+  -- own's stamp and the two others', as they are taken out of the three
+  module _ {j u v z o : ℕ} (a b : ℕ) (h : Stamps j u v z) (got : arranged (c - k) (λ own d e. (o ≡ own) × (a ≡ d) × (b ≡ e)) u v z) where
+    -- what holds of the stamps of own and of the neighbours holds of these
     by_place : (Q : (own a b : ℕ) → Type 0) →
-        ((a b : ℕ) → neighbours s.width c ≡ a ∷ b ∷ cond (four_senders s.width c) ((k + 3) ∷ []) [] → Q (heard c) (heard a) (heard b)) →
-        arranged (c - k) Q u v z
+        ((d e : ℕ) → neighbours s.width c ≡ d ∷ e ∷ cond (four_senders s.width c) ((k + 3) ∷ []) [] → Q (heard c) (heard d) (heard e)) →
+        Q o a b
     by_place Q q =
-        rw (is_heard 0 (omega arith) h.first, is_heard 1 (omega arith) h.second, is_heard 2 (omega arith) h.third)
-        (arranged_map Q (c - k) (k + 0) (k + 1) (k + 2) heard (λ own a b e. rw e.0 (q a b e.1)) own_placed)
+        taken Q (c - k) u v z got
+        (rw (is_heard 0 (omega arith) h.first, is_heard 1 (omega arith) h.second, is_heard 2 (omega arith) h.third)
+        (arranged_map Q (c - k) (k + 0) (k + 1) (k + 2) heard (λ own d e n. rw n.0 (q d e n.1)) own_placed))
 
-    -- what the rule takes, and the pulse, of three stamps and of four
-    module _ (low high : (a b : ℕ) → ℕ) (g : arranged (c - k) (λ own a b. Pulsing s ts x c own (low a b) (high a b)) u v z) where
-      ready : arranged (c - k) (λ own a b. Forwardable s.unit j own (low a b) (high a b)) u v z
-      ready = arranged_map (λ own a b. Forwardable s.unit j own (low a b) (high a b)) (c - k) u v z (λ n. n) (λ own a b q. ready_at q h.step) g
+    -- with two neighbours, and with three
+    pub of_two : four_senders s.width c ≡ false → Pulsing s ts x c o (min a b) (max a b)
+    of_two f = by_place (λ own a b. Pulsing s ts x c own (min a b) (max a b)) (λ d e n. pulse_two t.row c t.here (rw f at n) refl refl refl)
 
-      pulses : {r : Pulsed} → r ≡ arranged (c - k) (λ own a b. fixed j own (low a b) (high a b)) u v z → r ≡ pulsed_at s ts x c
-      pulses e = e ∙ arranged_same (c - k) u v z (λ own a b. fixed j own (low a b) (high a b)) (λ own a b q. pulses_at q h.step refl) g
-
-    of_three : four_senders s.width c ≡ false → arranged (c - k) (λ own a b. Pulsing s ts x c own (min a b) (max a b)) u v z
-    of_three f = by_place (λ own a b. Pulsing s ts x c own (min a b) (max a b)) (λ a b e. pulse_two t.row c t.here (rw f at e) refl refl refl)
-
-    pub ready_three : four_senders s.width c ≡ false → arranged (c - k) (λ own a b. Forwardable s.unit j own (min a b) (max a b)) u v z
-    ready_three f = ready (λ a b. min a b) (λ a b. max a b) (of_three f)
-
-    pub pulse_of_three : four_senders s.width c ≡ false → {r : Pulsed} → r ≡ arranged (c - k) (λ own a b. fixed j own (min a b) (max a b)) u v z → r ≡ pulsed_at s ts x c
-    pulse_of_three f = pulses (λ a b. min a b) (λ a b. max a b) (of_three f)
-
-    module _ {d : ℕ} (f : four_senders s.width c ≡ true) (is_d : d ≡ read 3) where
-      of_four : arranged (c - k) (λ own a b. Pulsing s ts x c own (min (min a b) d) (max (max a b) d)) u v z
-      of_four =
-          by_place (λ own a b. Pulsing s ts x c own (min (min a b) d) (max (max a b) d))
-          (λ a b e. pulse_three t.row c t.here (rw f at e) refl refl refl (is_d ∙ code t.row c t.here (at_fourth f)))
-
-      pub ready_four : arranged (c - k) (λ own a b. Forwardable s.unit j own (min (min a b) d) (max (max a b) d)) u v z
-      ready_four = ready (λ a b. min (min a b) d) (λ a b. max (max a b) d) of_four
-
-      pub pulse_of_four : {r : Pulsed} → r ≡ arranged (c - k) (λ own a b. fixed j own (min (min a b) d) (max (max a b) d)) u v z → r ≡ pulsed_at s ts x c
-      pulse_of_four = pulses (λ a b. min (min a b) d) (λ a b. max (max a b) d) of_four
+    pub of_three : {d : ℕ} → four_senders s.width c ≡ true → d ≡ read 3 → Pulsing s ts x c o (min (min a b) d) (max (max a b) d)
+    of_three {d} f is_d =
+        by_place (λ own a b. Pulsing s ts x c own (min (min a b) d) (max (max a b) d))
+        (λ i l n. pulse_three t.row c t.here (rw f at n) refl refl refl (is_d ∙ code t.row c t.here (at_fourth f)))

@@ -8,14 +8,8 @@ use Rattle.pulse.proofs.by_ends.Goals as goal
 small : (c : After-adopted-fixed) → c.adopted-fixed.result.p ≤ 4398046698604
 small c = rw c.adopted-fixed.ensures.p (P_small c.requires.forwardable)
 
-pub adopted-fixed-requires : goal.adopted-fixed-requires
-adopted-fixed-requires c = c.requires.forwardable
-
-pub overflow_add-read : goal.overflow_add-read
-overflow_add-read c = omega (arith, small (goal.at.overflow_add-read c).After-adopted-fixed, c.requires.admitted)
+pub overflow_add-fixed : goal.overflow_add-fixed
+overflow_add-fixed c = omega (arith, small (goal.at.overflow_add-fixed c).After-adopted-fixed, c.requires.admitted)
 
 pub first_tick-requires : goal.first_tick-requires
 first_tick-requires c = omega (arith, small (goal.at.first_tick-requires c).After-adopted-fixed, c.requires.admitted)
-
-pub returns : goal.returns
-returns c = rw (c.first_tick.ensures, c.adopted-fixed.ensures.p, c.adopted-fixed.ensures.letter)

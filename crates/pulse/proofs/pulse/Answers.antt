@@ -13,8 +13,9 @@ use Rattle.admission.proofs.Laws.Accepted.{Accepted, accepted}
 use Rattle.pulse.specs.Pulse.{clock_of}
 use Rattle.pulse.specs.Stampable.{stamped}
 use Rattle.pulse.proofs.Laws.Stamps.{admitted}
-use Rattle.pulse.proofs.Laws.Window.{Found, own_after, own_not_first, readable, fourth_readable, Stamps, ready_three, pulse_of_three, ready_four, pulse_of_four}
-use Rattle.pulse.proofs.pulse.Goals.{Start}
+use Rattle.pulse.proofs.Laws.Stampable.{Pulsing, ready_at, pulses_at}
+use Rattle.pulse.proofs.Laws.Window.{Found, own_after, readable, fourth_readable, Stamps, of_two, of_three}
+use Rattle.pulse.proofs.pulse.Goals.{Start, After-max-most, After-max-else-four_senders}
 use Rattle.pulse.proofs.pulse.Goals as goal
 
 -- what was lent, and what an accepted row keeps
@@ -60,8 +61,8 @@ first_sender-first-requires c = in_row (goal.at.first_sender-first-requires c).S
 pub first_link-at-requires : goal.first_link-at-requires
 first_link-at-requires c = in_row (goal.at.first_link-at-requires c).Start
 
-pub overflow_sub-place : goal.overflow_sub-place
-overflow_sub-place c = own_after (found (goal.at.overflow_sub-place c).Start c.first_sender-first.ensures c.first_link-at.ensures)
+pub overflow_sub-c : goal.overflow_sub-c
+overflow_sub-c c = own_after (found (goal.at.overflow_sub-c c).Start c.first_sender-first.ensures c.first_link-at.ensures)
 
 pub stamp-x-requires : goal.stamp-x-requires
 unfolding call
@@ -88,43 +89,42 @@ stamp-d-requires c = let s = (goal.at.stamp-d-requires c).Start in
     let four = sym c.four_senders.ensures ∙ c.if-four_senders.true in
     rw c.clock-clock.ensures (fourth_readable f four)
 
-pub among_four-requires : goal.among_four-requires
+-- what own and the ends of the neighbours give, with a fourth stamp and without
+with_fourth : (c : After-max-most) → let a = c.args in
+    Pulsing a.settings a.before.now (call a.marks.now a.drifts.now a.phases.now a.links.now a.settings.width a.settings.width) a.c c.own_first-own.result.0
+    c.min-least.result c.max-most.result
 unfolding call
-among_four-requires c = let s = (goal.at.among_four-requires c).Start in
-    let f = found s c.first_sender-first.ensures c.first_link-at.ensures in
-    let four = sym c.four_senders.ensures ∙ c.if-four_senders.true in
-    let h = heard s c.first_sender-first.ensures c.first_link-at.ensures c.clock-clock.ensures c.stamp-x.ensures c.stamp-y.ensures c.stamp-z.ensures in
-    let d = rw c.clock-clock.ensures at c.stamp-d.ensures in
-    record {
-      arranged = ready_four f h four d;
-      admitted = rw c.clock-clock.ensures (clock_ok s);
-      place_nonzero = own_not_first f four;
-    }
+with_fourth c = let s = (goal.at.by_ends-requires c).Start in
+    rw (c.min-least.ensures, c.min.ensures, c.max-most.ensures, c.max.ensures)
+    (of_three (found s c.first_sender-first.ensures c.first_link-at.ensures) c.own_first-own.result.1 c.own_first-own.result.2
+    (heard s c.first_sender-first.ensures c.first_link-at.ensures c.clock-clock.ensures c.stamp-x.ensures c.stamp-y.ensures c.stamp-z.ensures)
+    c.own_first-own.ensures (sym c.four_senders.ensures ∙ c.if-four_senders.true) (rw c.clock-clock.ensures at c.stamp-d.ensures))
+
+with_three : (c : After-max-else-four_senders) → let a = c.args in
+    Pulsing a.settings a.before.now (call a.marks.now a.drifts.now a.phases.now a.links.now a.settings.width a.settings.width) a.c c.own_first-own.result.0
+    c.min-else-four_senders.result c.max-else-four_senders.result
+unfolding call
+with_three c = let s = (goal.at.by_ends-requires-else-four_senders c).Start in
+    rw (c.min-else-four_senders.ensures, c.max-else-four_senders.ensures)
+    (of_two (found s c.first_sender-first.ensures c.first_link-at.ensures) c.own_first-own.result.1 c.own_first-own.result.2
+    (heard s c.first_sender-first.ensures c.first_link-at.ensures c.clock-clock.ensures c.stamp-x.ensures c.stamp-y.ensures c.stamp-z.ensures)
+    c.own_first-own.ensures (sym c.four_senders.ensures ∙ c.if-four_senders.false))
+
+pub by_ends-requires : goal.by_ends-requires
+by_ends-requires c =
+    record { forwardable = ready_at (with_fourth c) c.requires.1; admitted = rw c.clock-clock.ensures (clock_ok (goal.at.by_ends-requires c).Start) }
 
 pub returns-then-four_senders : goal.returns-then-four_senders
 unfolding call
-returns-then-four_senders c = let s = (goal.at.returns-then-four_senders c).Start in
-    let f = found s c.first_sender-first.ensures c.first_link-at.ensures in
-    let four = sym c.four_senders.ensures ∙ c.if-four_senders.true in
-    let h = heard s c.first_sender-first.ensures c.first_link-at.ensures c.clock-clock.ensures c.stamp-x.ensures c.stamp-y.ensures c.stamp-z.ensures in
-    let d = rw c.clock-clock.ensures at c.stamp-d.ensures in
-    pulse_of_four f h four d (rw c.clock-clock.ensures at c.among_four.ensures)
+returns-then-four_senders c =
+    pulses_at (with_fourth (goal.at.returns-then-four_senders c).After-max-most) c.requires.1 (rw c.clock-clock.ensures at c.by_ends.ensures)
 
-pub among_three-requires : goal.among_three-requires
-unfolding call
-among_three-requires c = let s = (goal.at.among_three-requires c).Start in
-    let f = found s c.first_sender-first.ensures c.first_link-at.ensures in
-    let four = sym c.four_senders.ensures ∙ c.if-four_senders.false in
-    let h = heard s c.first_sender-first.ensures c.first_link-at.ensures c.clock-clock.ensures c.stamp-x.ensures c.stamp-y.ensures c.stamp-z.ensures in
-    record {
-      arranged = ready_three f h four;
-      admitted = rw c.clock-clock.ensures (clock_ok s);
-    }
+pub by_ends-requires-else-four_senders : goal.by_ends-requires-else-four_senders
+by_ends-requires-else-four_senders c =
+    record { forwardable = ready_at (with_three c) c.requires.1; admitted = rw c.clock-clock.ensures (clock_ok (goal.at.by_ends-requires-else-four_senders c).Start) }
 
-pub returns : goal.returns
+pub returns-else-four_senders : goal.returns-else-four_senders
 unfolding call
-returns c = let s = (goal.at.returns c).Start in
-    let f = found s c.first_sender-first.ensures c.first_link-at.ensures in
-    let four = sym c.four_senders.ensures ∙ c.if-four_senders.false in
-    let h = heard s c.first_sender-first.ensures c.first_link-at.ensures c.clock-clock.ensures c.stamp-x.ensures c.stamp-y.ensures c.stamp-z.ensures in
-    pulse_of_three f h four (rw c.clock-clock.ensures at c.among_three.ensures)
+returns-else-four_senders c =
+    pulses_at (with_three (goal.at.returns-else-four_senders c).After-max-else-four_senders) c.requires.1
+    (rw c.clock-clock.ensures at c.by_ends-else-four_senders.ensures)

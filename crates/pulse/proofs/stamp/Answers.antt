@@ -2,7 +2,6 @@
 use mathlib.Core.Path.{◌≡◌, sym, ◌∙◌}
 use mathlib.Core.Bool.{true, false}
 use Prim.Native.Nat.{◌+◌}
-use native.Mathlib.Omega.{arith}
 use Rattle.columns.specs.Marks.{marked}
 use Rattle.pulse.proofs.Laws.Stampable.{stamped_silent, stamped_faulty, stamped_correct}
 use Rattle.pulse.proofs.stamp.Goals.{Else-marked, Then-marked}
@@ -18,19 +17,10 @@ pub returns-then-arrival : goal.returns-then-arrival
 returns-then-arrival c = let a = c.args in
     sym (stamped_silent a.clock a.before.now a.marks.now a.links.now (a.first + a.place) (a.at + a.place) (is_faulty (goal.at.returns-then-arrival c).Then-marked) c.if-arrival.true)
 
-pub reading-requires : goal.reading-requires
-reading-requires c = let p = c.requires in
-    omega (arith, p.clock_ok, p.faulty (is_faulty (goal.at.reading-requires c).Then-marked) c.if-arrival.false)
-
 pub returns-then-marked : goal.returns-then-marked
 returns-then-marked c = let a = c.args in
     c.reading.ensures
     ∙ sym (stamped_faulty a.clock a.before.now a.marks.now a.links.now (a.first + a.place) (a.at + a.place) (is_faulty (goal.at.returns-then-marked c).Then-marked) c.if-arrival.false)
-
-pub received-requires : goal.received-requires
-received-requires c = let p = c.requires in
-    let d = p.delay (is_correct c) in
-    record { clock_ok = p.clock_ok; in_row = p.in_row; in_links = p.in_links; time = d.0; delay = d.1 }
 
 pub returns : goal.returns
 returns c = let a = c.args in

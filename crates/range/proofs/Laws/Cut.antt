@@ -9,12 +9,13 @@ use borrow.Author.Tests.{ne_eqb}
 use lib.Dec.{eqb}
 use lib.ListN.{length, get_or, take, length-append, length-take, get_or-append}
 use lib.Seq.{get_or-take, get_or-append-add}
+use Rattle.std.specs.Prelude.{Option, Some, None, Result, Ok, Err}
 use Rattle.settings.proofs.Laws.Cases.{by_order}
 use Rattle.settings.specs.declared.Settings.{Settings}
+use Rattle.settings.specs.declared.refusal.Refusal.{Refusal}
 use Rattle.runs.specs.Reach.{widest_gap}
 use Rattle.reach.specs.Search.{reach_in_row}
-use Rattle.reach.specs.declared.Reached.{Reached}
-use Rattle.reach.specs.declared.Reached.TheVariants.{Within, Outside, Refused}
+use Rattle.reach.specs.declared.Range.{Range}
 use Rattle.lines.specs.Number.{glyph, decimal_in, decimal}
 use Rattle.lines.specs.Line.{space, line_end, numbers_text, line_text}
 use Rattle.lines.specs.Promises.{all_are}
@@ -54,11 +55,11 @@ line : (word ns : List ℕ) → all_are other word ≡ true → all_are other (l
 unfolding line_text
 line word ns e = then (word ++ numbers_text ns) (line_end ∷ []) (then word (numbers_text ns) e (numbers ns)) (unfold all_are other in refl)
 
-reach : (f l : ℕ) (r : Reached) → all_are other (reach_text f l r) ≡ true
+reach : (f l : ℕ) (r : Result (Option Range) Refusal) → all_are other (reach_text f l r) ≡ true
 unfolding reach_text
-reach f l (Within r) = line r_word (f ∷ l ∷ r.ticks ∷ (l - f) ∷ []) (unfold all_are other in refl)
-reach f l Outside = unfold all_are in refl
-reach f l (Refused n) = unfold all_are in refl
+reach f l (Ok (Some r)) = line r_word (f ∷ l ∷ r.ticks ∷ (l - f) ∷ []) (unfold all_are other in refl)
+reach f l (Ok None) = unfold all_are in refl
+reach f l (Err why) = unfold all_are in refl
 
 reaches : (s : Settings) (b f : ℕ) (ls : List ℕ) → all_are other (reach_texts s b f ls) ≡ true
 unfolding reach_texts

@@ -1,38 +1,44 @@
 -- Rows that are not asked for change nothing of what is told. Assumes nothing.
 use mathlib.Core.Path.{◌≡◌, refl, ap}
-use mathlib.Core.Bool.{Bool, true, false, not, cond}
+use mathlib.Core.Bool.{cond}
 use mathlib.Core.List.{List, [], ◌∷◌, ◌++◌}
 use Prim.Native.Nat.{ℕ, zero, suc, ◌+◌}
 use native.Mathlib.Omega.{arith}
 use borrow.Author.Tests.{le-ltb}
-use lib.Dec.{eqb, ltb}
+use lib.Dec.{ltb}
 use lib.ListN.{drop, replicate}
-use Rattle.settings.specs.Settings.{settings_refusal}
+use Rattle.std.specs.Prelude.{Option, Some, None, Result, Ok, Err}
+use Rattle.settings.specs.Refusal.{answer}
+use Rattle.settings.specs.Settings.{settings_cause}
 use Rattle.settings.specs.declared.Settings.{Settings}
+use Rattle.settings.specs.declared.refusal.Refusal.{Refusal}
 use Rattle.row.specs.Row.{row_of}
 use Rattle.reach.specs.Search.{reach_in_row}
 use Rattle.reach.specs.Survey.{surveyed_of}
 use Rattle.reach.specs.declared.survey.Surveyed.{Surveyed}
-use Rattle.reach.specs.declared.survey.Surveyed.TheVariants as surveyed
-use Rattle.lines.specs.Line.{refused_line, line_text}
+use Rattle.lines.specs.Line.{line_text}
 use Rattle.fields.specs.Field.{body}
 use Rattle.contents.specs.Contents.{settings_size, settings_in, start_size, times_in, row_size, marks_in, call_in}
-use Rattle.steps.specs.Number.{row_number, row_offset}
+use Rattle.steps.specs.Number.{row_fields_cause, row_offset}
 use Rattle.search_lines.specs.Text.{faulty_word, reach_text, reach_texts, gap_text}
 use Rattle.telling.specs.Telling.{first_marked}
-use Rattle.range.specs.File.{with_lines, rows_told, start_told, file_told, search_text}
+use Rattle.range.specs.File.{with_lines, or_told, rows_told, start_told, file_told, search_text}
 
 -- row 0 is later than none
-row_0_silent : (s : Settings) (b f : ℕ) (c : Bool) → not (eqb (settings_refusal s) 0) ≡ c → reach_text f 0 (reach_in_row s b f 0 0) ≡ []
-unfolding reach_in_row reach_text
-row_0_silent s b f true e = rw e
-row_0_silent s b f false e = rw (e, le-ltb f 0 (omega arith))
+outside_silent : (f : ℕ) (c : Option Refusal) → reach_text f 0 (answer c None) ≡ []
+unfolding reach_text answer
+outside_silent f None = refl
+outside_silent f (Some why) = refl
+
+row_0_silent : (s : Settings) (b f : ℕ) → reach_text f 0 (reach_in_row s b f 0 0) ≡ []
+unfolding reach_in_row
+row_0_silent s b f = rw (le-ltb f 0 (omega arith)) (outside_silent f (settings_cause s))
 
 module _ (s : Settings) (b f : ℕ) where
   none_told : (n : ℕ) → reach_texts s b f (replicate n 0) ≡ []
   unfolding reach_texts
   none_told zero = refl
-  none_told (suc n) = rw (row_0_silent s b f (not (eqb (settings_refusal s) 0)) refl, none_told n)
+  none_told (suc n) = rw (row_0_silent s b f, none_told n)
 
   texts_same : (asked : List ℕ) (n : ℕ) → reach_texts s b f (asked ++ replicate n 0) ≡ reach_texts s b f asked
   unfolding reach_texts
@@ -47,12 +53,12 @@ module _ (asked : List ℕ) (z : ℕ) where
   abbrev more : List ℕ
   more = asked ++ replicate z 0
 
-  lines_same : (s : Settings) (l : ℕ) (v : Surveyed) (here there : ℕ → List ℕ) → ((k : ℕ) → here k ≡ there k) →
+  lines_same : (s : Settings) (l : ℕ) (v : Result (Option Surveyed) Refusal) (here there : ℕ → List ℕ) → ((k : ℕ) → here k ≡ there k) →
       with_lines s more l v here ≡ with_lines s asked l v there
   unfolding with_lines
-  lines_same s l (surveyed.Row b m) here there h = rw (gap_same s b l asked z, h m)
-  lines_same s l surveyed.Outside here there h = refl
-  lines_same s l (surveyed.Refused n) here there h = refl
+  lines_same s l (Ok (Some x)) here there h = rw (gap_same s x.gap l asked z, h x.largest)
+  lines_same s l (Ok None) here there h = refl
+  lines_same s l (Err why) here there h = refl
 
   rows_same : (s : Settings) (n l at m : ℕ) (ts bs : List ℕ) → rows_told s more n l at m ts bs ≡ rows_told s asked n l at m ts bs
   unfolding rows_told
@@ -61,7 +67,7 @@ module _ (asked : List ℕ) (z : ℕ) where
       let w = s.width in
       let c = first_marked w (marks_in w bs) in
       ap
-      (λ (t : List ℕ). cond (eqb (row_number s ts bs) 0) (cond (ltb c w) (line_text faulty_word (l ∷ c ∷ [])) t) (refused_line (row_number s ts bs) (row_offset s at bs)))
+      (λ (t : List ℕ). or_told (row_fields_cause s ts bs) (row_offset s at bs) (cond (ltb c w) (line_text faulty_word (l ∷ c ∷ [])) t))
       (lines_same s l (surveyed_of s l m ts) _ _
       (λ k. rows_same s n (suc l) (at + row_size w) k (row_of s ts (call_in w bs)) (drop (row_size w) bs)))
 

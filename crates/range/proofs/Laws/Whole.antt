@@ -7,22 +7,23 @@ use lib.ListN.{take, drop}
 use native.Mathlib.Omega.{arith}
 use borrow.Author.Tests.{eq-eqb, le-ltb}
 use Rattle.settings.specs.declared.Settings.{Settings}
+use Rattle.settings.proofs.Laws.Refusal.{none_of}
 use Rattle.admission.specs.Call.{call}
 use Rattle.columns.specs.Marks.{marked}
 use Rattle.row.specs.Row.{row_of}
 use Rattle.admission.specs.Refusal.{row_refusal}
 use Rattle.runs.specs.Reach.{widest_gap}
 use Rattle.runs.specs.Run.{rows, call_at}
-use Rattle.reach.specs.Survey.{last_reach, largest_of, RowSurveyed}
+use Rattle.reach.specs.Survey.{surveyed, last_reach, largest_of, RowSurveyed}
 use Rattle.reach.proofs.Promises.{row_surveyed}
 use Rattle.contents.specs.Contents.{row_size, marks_in, call_in}
-use Rattle.steps.specs.Number.{row_number}
+use Rattle.steps.specs.Number.{row_fields_cause, row_number}
 use Rattle.file.specs.Limits.{calls_in, RowsKeep, over, and_then}
 use Rattle.file.proofs.Laws.Limits.{keeps}
 use Rattle.file.proofs.Laws.Rows.{Grown, early_of, grows, call_accepted}
 use Rattle.search_lines.specs.Text.{largest_text, gap_text}
 use Rattle.telling.specs.Telling.{first_in, first_marked}
-use Rattle.range.specs.File.{with_lines, rows_told}
+use Rattle.range.specs.File.{with_lines, or_told, rows_told}
 use Rattle.range.specs.Promises.{gaps_text}
 
 -- with no mark the lowest marked column is none
@@ -49,7 +50,7 @@ module _ (s : Settings) (asked : List ℕ) where
   pub rows_whole : (n l at m : ℕ) (ts bs : List ℕ) → RowsKeep s n bs → Grown s l ts → l + n ≡ s.rows → s.rows ≤ 1024 →
       ((k c : ℕ) → k < n → c < s.width → marked (call_at (calls_in s.width n bs) k).marks c ≡ false) →
       rows_told s asked n l at m ts bs ≡ told l m (take n (ts ∷ rows s (calls_in s.width n bs) ts))
-  unfolding rows_told calls_in rows gaps_text largest_of call_at call_in call with_lines RowSurveyed
+  unfolding rows_told or_told row_number calls_in rows gaps_text largest_of call_at call_in call with_lines surveyed RowSurveyed
   rows_whole zero l at m ts bs over g e i h = refl
   rows_whole (suc n) l at m ts bs (and_then k r) g e i h =
       let w = s.width in
@@ -60,5 +61,5 @@ module _ (s : Settings) (asked : List ℕ) where
       let row = row_surveyed s l m ts g.pass (omega (arith, e)) g.long (λ c j. omega (arith, g.grown c j, e, i)) in
       let rest = rows_whole n (suc l) (at + row_size w) (max m (last_reach s l ts)) (row_of s ts x) (drop (row_size w) bs) r (grows x g a) (omega (arith, e)) i
       (λ q c j o. h (suc q) c (omega (arith, j)) o) in
-      rw (eq-eqb (row_number s ts bs) 0 number, clean, le-ltb w w (omega arith), row, eq-eqb (row_refusal s ts x) 0 a)
+      rw (none_of (row_fields_cause s ts bs) number, clean, le-ltb w w (omega arith), row, eq-eqb (row_refusal s ts x) 0 a)
       (ap (λ (t : List ℕ). gap_text s (widest_gap w ts) l asked ++ t) rest ∙ told_more l m ts (take n (row_of s ts x ∷ rows s (calls_in w n (drop (row_size w) bs)) (row_of s ts x))))

@@ -1,5 +1,6 @@
 -- Each answer by the inequalities that decide it. Assumes nothing.
 use mathlib.Core.Path.{◌≡◌, refl, ◌∙◌}
+use Rattle.std.specs.Prelude.{Option, Some, None, Result, Ok, Err}
 use mathlib.Core.Bool.{true, false, not, ◌||◌, or-true, and-false}
 use mathlib.Core.List.{List}
 use mathlib.Core.Logic.{◌⊎◌, inl, inr}
@@ -8,38 +9,54 @@ use lib.Dec.{eqb, ltb}
 use lib.ListN.{length}
 use native.Mathlib.Omega.{arith}
 use borrow.Author.Tests.{eq-eqb, ne_eqb, lt-ltb, le-ltb}
-use Rattle.settings.specs.Settings.{settings_refusal}
+use Rattle.settings.specs.Refusal.{first, refused, or_else, answer}
+use Rattle.settings.specs.Settings.{settings_cause, settings_refusal}
 use Rattle.settings.specs.declared.Settings.{Settings}
+use Rattle.settings.specs.declared.refusal.Refusal.{Refusal}
+use Rattle.settings.specs.declared.refusal.Refusal.TheVariants.{Lengths}
+use Rattle.settings.proofs.Laws.Refusal.{none_of}
 use Rattle.settings.proofs.Laws.Settings.{limits}
 use Rattle.rule.specs.Stamp.{latest_stamp}
 use Rattle.runs.specs.Reach.{widest_gap, reach_ticks}
 use Rattle.reach.specs.Span.{first_within, last_within}
-use Rattle.reach.specs.Search.{gap_of, outside_wall, reach_of, reach_in_row}
-use Rattle.reach.specs.Survey.{with_reach, with_gap, surveyed_of, last_reach}
-use Rattle.reach.specs.Answers.{gap_number, gap_B, reached_number, reached_outside, reached_ticks, reached_first, reached_last, surveyed_number, surveyed_outside, surveyed_B, surveyed_largest, GapIs, ReachedIs, SurveyedIs, GapAnswer, ReachAnswer, RowAnswer, SurveyAnswer}
-use Rattle.reach.specs.declared.Gap.TheVariants as gap
-use Rattle.reach.specs.declared.Reached.TheVariants as reached
+use Rattle.reach.specs.Search.{gap_of, outside_wall, range_of, range_within, reach_of, reach_in_row}
+use Rattle.reach.specs.Survey.{surveyed, with_reach, with_gap, surveyed_of, last_reach}
+use Rattle.reach.specs.Answers.{gap_B, reached_outside, reached_ticks, reached_first, reached_last, surveyed_outside, surveyed_B, surveyed_largest, GapIs, ReachedIs, SurveyedIs, GapAnswer, ReachAnswer, RowAnswer, SurveyAnswer}
 use Rattle.reach.proofs.Laws.Search.{by_gap}
+
+-- settings that are turned away have a refusal, and others have none
+module _ (s : Settings) where
+  pub given : (settings_refusal s ≡ 0 → ⊥) → (r : Refusal) × (settings_cause s ≡ Some r)
+  unfolding settings_refusal
+  given n = go (settings_cause s) refl
+    where
+      go : (c : Option Refusal) → settings_cause s ≡ c → (r : Refusal) × (settings_cause s ≡ Some r)
+      go None e = absurd (n (rw e))
+      go (Some r) e = (r, e)
+
+  pub passes : settings_refusal s ≡ 0 → settings_cause s ≡ None
+  unfolding settings_refusal
+  passes ok = none_of _ ok
 
 -- B of a row
 module _ (s : Settings) (row : List ℕ) where
-  gap_refused : (settings_refusal s ≡ 0 → ⊥) → gap_of s row ≡ gap.Refused (settings_refusal s)
-  unfolding gap_of
-  gap_refused n = rw (ne_eqb (settings_refusal s) 0 n)
+  pub gap_refused : (r : Refusal) → settings_cause s ≡ Some r → gap_of s row ≡ Err r
+  unfolding gap_of or_else answer
+  gap_refused r e = rw e
 
-  gap_unlike : settings_refusal s ≡ 0 → (length row ≡ s.width → ⊥) → gap_of s row ≡ gap.Refused 21
-  unfolding gap_of
-  gap_unlike ok n = rw (eq-eqb (settings_refusal s) 0 ok, ne_eqb (length row) s.width n)
+  pub gap_unlike : settings_refusal s ≡ 0 → (length row ≡ s.width → ⊥) → gap_of s row ≡ Err Lengths
+  unfolding gap_of first or_else answer
+  gap_unlike ok n = rw (passes s ok, ne_eqb (length row) s.width n)
 
-  gap_found : settings_refusal s ≡ 0 → length row ≡ s.width → gap_of s row ≡ gap.Widest (widest_gap s.width row)
-  unfolding gap_of
-  gap_found ok e = rw (eq-eqb (settings_refusal s) 0 ok, eq-eqb (length row) s.width e)
+  pub gap_found : settings_refusal s ≡ 0 → length row ≡ s.width → gap_of s row ≡ Ok (widest_gap s.width row)
+  unfolding gap_of first or_else answer
+  gap_found ok e = rw (passes s ok, eq-eqb (length row) s.width e)
 
   pub gap_answer : GapAnswer s row
-  unfolding GapIs gap_number gap_B
+  unfolding GapIs gap_B settings_refusal
   gap_answer =
       record {
-        settings = λ n. rw (gap_refused n) (refl, refl);
+        settings = λ n. let g = given s n in rw (gap_refused g.0 g.1, g.1) (refl, refl);
         other_length = λ ok n. rw (gap_unlike ok n) (refl, refl);
         found = λ ok e. rw (gap_found ok e) (refl, refl);
       }
@@ -59,26 +76,27 @@ module _ (s : Settings) (b n k : ℕ) where
   unfolding outside_wall
   outside_gap i = rw (lt-ltb latest_stamp b i, or-true (not (ltb k s.width))) (or-true (eqb n 0 || ltb s.rows n))
 
-  reach_refused : (settings_refusal s ≡ 0 → ⊥) → reach_of s b n k ≡ reached.Refused (settings_refusal s)
-  unfolding reach_of
-  reach_refused m = rw (ne_eqb (settings_refusal s) 0 m)
+  pub reach_refused : (r : Refusal) → settings_cause s ≡ Some r → reach_of s b n k ≡ Err r
+  unfolding reach_of answer
+  reach_refused r e = rw e
 
-  reach_outside : settings_refusal s ≡ 0 → outside_wall s b n k ≡ true → reach_of s b n k ≡ reached.Outside
-  unfolding reach_of
-  reach_outside ok e = rw (eq-eqb (settings_refusal s) 0 ok, e)
+  pub reach_outside : settings_refusal s ≡ 0 → outside_wall s b n k ≡ true → reach_of s b n k ≡ Ok None
+  unfolding reach_of range_within answer
+  reach_outside ok e = rw (passes s ok, e)
 
-  reach_found : settings_refusal s ≡ 0 → 0 < n → n ≤ s.rows → k < s.width → b ≤ latest_stamp →
-      reach_of s b n k ≡ reached.Within (record { ticks = reach_ticks s b n; first = first_within s.width k n; last = last_within s.width k n })
-  unfolding reach_of
+  pub reach_inside : settings_refusal s ≡ 0 → outside_wall s b n k ≡ false → reach_of s b n k ≡ Ok (Some (range_of s b n k))
+  unfolding reach_of range_within answer
+  reach_inside ok e = rw (passes s ok, e)
+
+  reach_found : settings_refusal s ≡ 0 → 0 < n → n ≤ s.rows → k < s.width → b ≤ latest_stamp → reach_of s b n k ≡ Ok (Some (range_of s b n k))
   reach_found ok i j l m =
-      let inside : outside_wall s b n k ≡ false = by_gap s b n k (λ z. omega (arith, z, i)) j l ∙ le-ltb latest_stamp b m in
-      rw (eq-eqb (settings_refusal s) 0 ok, inside)
+      reach_inside ok (by_gap s b n k (λ z. omega (arith, z, i)) j l ∙ le-ltb latest_stamp b m)
 
   pub reach_answer : ReachAnswer s b n k
-  unfolding ReachedIs reached_number reached_outside reached_ticks reached_first reached_last
+  unfolding ReachedIs reached_outside reached_ticks reached_first reached_last range_of settings_refusal
   reach_answer =
       record {
-        settings = λ m. rw (reach_refused m) (refl, refl, refl, refl, refl);
+        settings = λ m. let g = given s m in rw (reach_refused g.0 g.1, g.1) (refl, refl, refl, refl, refl);
         no_row = λ ok i. rw (reach_outside ok (outside_row i)) (refl, refl, refl, refl, refl);
         no_column = λ ok i. rw (reach_outside ok (outside_column i)) (refl, refl, refl, refl, refl);
         no_gap = λ ok i. rw (reach_outside ok (outside_gap i)) (refl, refl, refl, refl, refl);
@@ -87,24 +105,24 @@ module _ (s : Settings) (b n k : ℕ) where
 
 -- in a row of the wall
 module _ (s : Settings) (b f l k : ℕ) where
-  row_refused : (settings_refusal s ≡ 0 → ⊥) → reach_in_row s b f l k ≡ reached.Refused (settings_refusal s)
-  unfolding reach_in_row
-  row_refused m = rw (ne_eqb (settings_refusal s) 0 m)
+  pub row_refused : (r : Refusal) → settings_cause s ≡ Some r → reach_in_row s b f l k ≡ Err r
+  unfolding reach_in_row answer
+  row_refused r e = rw e
 
-  row_outside : settings_refusal s ≡ 0 → (l ≤ f) ⊎ (s.rows < l) → reach_in_row s b f l k ≡ reached.Outside
-  unfolding reach_in_row
-  row_outside ok (inl i) = rw (eq-eqb (settings_refusal s) 0 ok, le-ltb f l i)
-  row_outside ok (inr i) = rw (eq-eqb (settings_refusal s) 0 ok, lt-ltb s.rows l i, and-false (ltb f l))
+  pub row_outside : settings_refusal s ≡ 0 → (l ≤ f) ⊎ (s.rows < l) → reach_in_row s b f l k ≡ Ok None
+  unfolding reach_in_row answer
+  row_outside ok (inl i) = rw (passes s ok, le-ltb f l i)
+  row_outside ok (inr i) = rw (passes s ok, lt-ltb s.rows l i, and-false (ltb f l))
 
-  row_later : settings_refusal s ≡ 0 → f < l → l ≤ s.rows → reach_in_row s b f l k ≡ reach_of s b (l - f) k
-  unfolding reach_in_row
-  row_later ok i j = rw (eq-eqb (settings_refusal s) 0 ok, lt-ltb f l i, le-ltb s.rows l j)
+  pub row_later : settings_refusal s ≡ 0 → f < l → l ≤ s.rows → reach_in_row s b f l k ≡ reach_of s b (l - f) k
+  unfolding reach_in_row reach_of answer
+  row_later ok i j = rw (passes s ok, lt-ltb f l i, le-ltb s.rows l j)
 
   pub row_answer : RowAnswer s b f l k
-  unfolding ReachedIs reached_number reached_outside reached_ticks reached_first reached_last
+  unfolding ReachedIs reached_outside reached_ticks reached_first reached_last settings_refusal
   row_answer =
       record {
-        settings = λ m. rw (row_refused m) (refl, refl, refl, refl, refl);
+        settings = λ m. let g = given s m in rw (row_refused g.0 g.1, g.1) (refl, refl, refl, refl, refl);
         no_row = λ ok i. rw (row_outside ok i) (refl, refl, refl, refl, refl);
         later = row_later;
       }
@@ -115,10 +133,10 @@ module _ (s : Settings) (l m : ℕ) (row : List ℕ) where
   b = widest_gap s.width row
 
   pub survey_answer : SurveyAnswer s l m row
-  unfolding SurveyedIs surveyed_number surveyed_outside surveyed_B surveyed_largest surveyed_of with_gap with_reach last_reach
+  unfolding SurveyedIs surveyed_outside surveyed_B surveyed_largest surveyed_of surveyed with_gap with_reach last_reach range_of settings_refusal
   survey_answer =
       record {
-        settings = λ n. rw (gap_refused s row n) (refl, refl, refl, refl);
+        settings = λ n. let g = given s n in rw (gap_refused s row g.0 g.1, g.1) (refl, refl, refl, refl);
         other_length = λ ok n. rw (gap_unlike s row ok n) (refl, refl, refl, refl);
         no_row = λ ok e i. let none : s.rows - l ≡ 0 = omega (arith, i) in
             rw (gap_found s row ok e, reach_outside s b (s.rows - l) 0 ok (outside_row s b (s.rows - l) 0 (inl none))) (refl, refl, refl, refl);

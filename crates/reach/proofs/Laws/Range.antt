@@ -7,7 +7,9 @@ use Prim.Native.Nat.{ℕ, ◌-◌, ◌≤◌, ◌<◌}
 use lib.ListN.{length, get_or}
 use native.Mathlib.Omega.{arith}
 use Rattle.settings.specs.Settings.{settings_refusal}
+use Rattle.std.specs.Prelude.{Option, Result}
 use Rattle.settings.specs.declared.Settings.{Settings}
+use Rattle.settings.specs.declared.refusal.Refusal.{Refusal}
 use Rattle.settings.proofs.Laws.Settings.{limits}
 use Rattle.rule.specs.Stamp.{latest_stamp}
 use Rattle.admission.specs.Call.{Call}
@@ -20,7 +22,7 @@ use Rattle.reach.specs.Span.{first_within, last_within, Spanned}
 use Rattle.reach.specs.Search.{gap_of, reach_of, reach_in_row}
 use Rattle.reach.specs.Answers.{GapIs, ReachedIs}
 use Rattle.reach.specs.Promises.{Covers, Searched}
-use Rattle.reach.specs.declared.Reached.{Reached}
+use Rattle.reach.specs.declared.Range.{Range}
 use Rattle.reach.proofs.Laws.Gap.{gap_small}
 use Rattle.reach.proofs.Laws.Span.{spanned}
 use Rattle.reach.proofs.Laws.Answers.{gap_answer, reach_answer, row_answer}
@@ -64,7 +66,7 @@ module _ (s : Settings) (ts : List ℕ) (xs ys : List Call) (f k : ℕ) (t : Two
     abbrev B : ℕ
     B = widest_gap s.width before
 
-    covers : (answer : Reached) →
+    covers : (answer : Result (Option Range) Refusal) →
         ReachedIs answer 0 false (some (reach_ticks s B (l - f))) (some (first_within s.width k (l - f))) (some (last_within s.width k (l - f))) →
         Covers answer s.width (row_at ts (rows s xs ts) l) (row_at ts (rows s ys ts) l)
     unfolding ReachedIs OneFault

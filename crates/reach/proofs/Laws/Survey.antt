@@ -1,34 +1,33 @@
 -- The largest reach over rows, and that each row of a wall is surveyed. Assumes nothing.
-use mathlib.Core.Path.{◌≡◌, refl, ◌∙◌, ap}
-use mathlib.Core.Bool.{Bool, true, false, cond, not, ◌||◌}
+use mathlib.Core.Path.{◌≡◌, refl, sym, ◌∙◌, ap}
+use mathlib.Core.Bool.{Bool, true, false, cond}
 use mathlib.Core.List.{List, [], ◌∷◌}
 use Prim.Native.Nat.{ℕ, zero, suc, ◌+◌, ◌-◌, ◌≤◌, ◌<◌, max}
-use lib.Dec.{eqb, ltb}
 use lib.ListN.{length, get_or, take}
 use native.Mathlib.Omega.{arith}
-use borrow.Author.Tests.{eq-eqb, eqb-true, eqb-false, le-ltb}
-use Rattle.settings.specs.Settings.{settings_refusal}
+use borrow.Author.Tests.{le-ltb}
+use Rattle.std.specs.Prelude.{Option, Some, None, Result, Ok, Err}
+use Rattle.settings.specs.Refusal.{answer}
+use Rattle.settings.specs.Settings.{settings_cause, settings_refusal}
 use Rattle.rule.specs.Stamp.{latest_stamp}
 use Rattle.settings.specs.declared.Settings.{Settings}
+use Rattle.settings.specs.declared.refusal.Refusal.{Refusal}
+use Rattle.settings.proofs.Laws.Refusal.{passed, accepted}
 use Rattle.settings.proofs.Laws.Settings.{limits}
 use Rattle.runs.specs.Run.{row_at}
-use Rattle.runs.specs.Reach.{widest_gap, reach_ticks}
-use Rattle.reach.specs.Span.{first_within, last_within}
-use Rattle.reach.specs.Search.{gap_of, reach_of, outside_wall}
-use Rattle.reach.specs.Survey.{with_reach, with_gap, surveyed_of, last_reach, largest_of}
-use Rattle.reach.specs.declared.Gap.{Gap}
-use Rattle.reach.specs.declared.Gap.TheVariants as gap
+use Rattle.runs.specs.Reach.{widest_gap}
+use Rattle.reach.specs.Search.{gap_of, range_of, range_within, reach_of, outside_wall}
+use Rattle.reach.specs.Survey.{surveyed, with_reach, with_gap, surveyed_of, last_reach, largest_of}
 use Rattle.reach.specs.declared.Range.{Range}
-use Rattle.reach.specs.declared.Reached.{Reached}
-use Rattle.reach.specs.declared.Reached.TheVariants as reached
-use Rattle.reach.specs.declared.survey.Surveyed.TheVariants as surveyed
+use Rattle.reach.specs.declared.survey.Surveyed.{Surveyed}
 use Rattle.reach.proofs.Laws.Gap.{gap_small}
-use Rattle.reach.proofs.Laws.Search.{by_gap}
+use Rattle.reach.proofs.Laws.Search.{by_gap, in_wall}
+use Rattle.reach.proofs.Laws.Answers.{gap_found, reach_inside}
 
 module _ (s : Settings) (ok : settings_refusal s ≡ 0) where
   pub row_surveyed : (l m : ℕ) (ts : List ℕ) → l < s.rows → length ts ≡ s.width → ((c : ℕ) → c < s.width → get_or ts c 0 ≤ latest_stamp) →
-      surveyed_of s l m ts ≡ surveyed.Row (widest_gap s.width ts) (max m (last_reach s l ts))
-  unfolding last_reach surveyed_of with_gap gap_of with_reach reach_of
+      surveyed_of s l m ts ≡ Ok (Some (surveyed (widest_gap s.width ts) (max m (last_reach s l ts))))
+  unfolding last_reach surveyed_of with_gap with_reach range_of
   row_surveyed l m ts i long early =
       let w = s.width in
       let b = widest_gap w ts in
@@ -36,37 +35,39 @@ module _ (s : Settings) (ok : settings_refusal s ≡ 0) where
       let wide = (limits s ok).width in
       let inside : outside_wall s b (s.rows - l) 0 ≡ false =
       by_gap s b (s.rows - l) 0 (λ z. omega (arith, z, i)) (omega (arith, i)) (omega (arith, wide)) ∙ le-ltb latest_stamp b small in
-      rw (eq-eqb (settings_refusal s) 0 ok, eq-eqb (length ts) w long, eq-eqb (settings_refusal s) 0 ok, inside)
+      rw (gap_found s ts ok long, reach_inside s b (s.rows - l) 0 ok inside)
 
 -- a row that is surveyed is one before the last
 module _ (s : Settings) (l m : ℕ) where
-  reached_later : (b : ℕ) (n : ℕ) (r : Range) → reach_of s b n 0 ≡ reached.Within r → (settings_refusal s ≡ 0) × (0 < n)
-  unfolding reach_of outside_wall
-  reached_later b n r e = go (eqb (settings_refusal s) 0) refl (eqb n 0) refl e
+  -- what has a range lies in the wall
+  is_inside : (b n : ℕ) (r : Range) → range_within s b n 0 ≡ Some r → outside_wall s b n 0 ≡ false
+  unfolding range_within
+  is_inside b n r e = go (outside_wall s b n 0) refl e
     where
-      answer : (p q : Bool) → Reached
-      answer p q =
-          cond (not p) (reached.Refused (settings_refusal s))
-          (cond ((q || ltb s.rows n) || (not (ltb 0 s.width) || ltb latest_stamp b)) reached.Outside
-          (reached.Within (record { ticks = reach_ticks s b n; first = first_within s.width 0 n; last = last_within s.width 0 n })))
+      go : (p : Bool) → outside_wall s b n 0 ≡ p → cond p None (Some (range_of s b n 0)) ≡ Some r → outside_wall s b n 0 ≡ false
+      go true d z = cc z
+      go false d z = d
 
-      go : (p : Bool) → eqb (settings_refusal s) 0 ≡ p → (q : Bool) → eqb n 0 ≡ q → answer p q ≡ reached.Within r → (settings_refusal s ≡ 0) × (0 < n)
-      go true a false d z = let some : n ≡ 0 → ⊥ = eqb-false n 0 d in (eqb-true (settings_refusal s) 0 a, omega (arith, some))
-      go true a true d z = let never : ◌≡◌ {A = ℕ} 0 1 = cc in absurd (omega arith)
-      go false a q d z = let never : ◌≡◌ {A = ℕ} 0 1 = cc in absurd (omega arith)
+  reached_later : (b n : ℕ) (r : Range) → reach_of s b n 0 ≡ Ok (Some r) → (settings_refusal s ≡ 0) × (0 < n)
+  unfolding reach_of settings_refusal
+  reached_later b n r e =
+      let ok = passed (settings_cause s) (range_within s b n 0) e in
+      let z : ◌≡◌ {A = Result (Option Range) Refusal} (Ok (range_within s b n 0)) (Ok (Some r)) = sym (accepted (settings_cause s) (range_within s b n 0) ok) ∙ e in
+      let v : range_within s b n 0 ≡ Some r = cc z in
+      (ok, (in_wall s b n 0 (is_inside b n r v)).some)
 
-  pub surveyed_early : (ts : List ℕ) (b n : ℕ) → surveyed_of s l m ts ≡ surveyed.Row b n → (settings_refusal s ≡ 0) × (l < s.rows)
+  pub surveyed_early : (ts : List ℕ) (x : Surveyed) → surveyed_of s l m ts ≡ Ok (Some x) → (settings_refusal s ≡ 0) × (l < s.rows)
   unfolding surveyed_of with_gap with_reach
-  surveyed_early ts b n e = by_gap_of (gap_of s ts) e
+  surveyed_early ts x e = by_gap_of (gap_of s ts) e
     where
-      by_reach : (x : ℕ) (a : Reached) → reach_of s x (s.rows - l) 0 ≡ a → with_reach x m a ≡ surveyed.Row b n → (settings_refusal s ≡ 0) × (l < s.rows)
-      by_reach x (reached.Within r) d z = let (p, q) = reached_later x (s.rows - l) r d in (p, omega (arith, q))
-      by_reach x reached.Outside d z = let never : ◌≡◌ {A = ℕ} 0 1 = cc in absurd (omega arith)
-      by_reach x (reached.Refused k) d z = let never : ◌≡◌ {A = ℕ} 0 1 = cc in absurd (omega arith)
+      by_reach : (g : ℕ) (a : Result (Option Range) Refusal) → reach_of s g (s.rows - l) 0 ≡ a → with_reach g m a ≡ Ok (Some x) → (settings_refusal s ≡ 0) × (l < s.rows)
+      by_reach g (Ok (Some r)) d z = let (p, q) = reached_later g (s.rows - l) r d in (p, omega (arith, q))
+      by_reach g (Ok None) d z = absurd (cc z)
+      by_reach g (Err k) d z = absurd (cc z)
 
-      by_gap_of : (g : Gap) → with_gap s l m g ≡ surveyed.Row b n → (settings_refusal s ≡ 0) × (l < s.rows)
-      by_gap_of (gap.Widest x) z = by_reach x (reach_of s x (s.rows - l) 0) refl z
-      by_gap_of (gap.Refused k) z = let never : ◌≡◌ {A = ℕ} 0 1 = cc in absurd (omega arith)
+      by_gap_of : (g : Result ℕ Refusal) → with_gap s l m g ≡ Ok (Some x) → (settings_refusal s ≡ 0) × (l < s.rows)
+      by_gap_of (Ok g) z = by_reach g (reach_of s g (s.rows - l) 0) refl z
+      by_gap_of (Err k) z = absurd (cc z)
 
 -- the largest is no smaller than any
 module _ (s : Settings) where

@@ -1,30 +1,32 @@
 -- `reach_in_row` meets its contract. Assumes nothing.
 use mathlib.Core.Path.{◌≡◌, sym, ◌∙◌}
+use mathlib.Core.Logic.{inl, inr}
 use native.Mathlib.Omega.{arith}
-use borrow.Author.Tests.{eq-eqb, ne_eqb, lt-ltb, le-ltb}
 use Rattle.settings.specs.Settings.{settings_refusal}
+use Rattle.settings.proofs.Laws.Refusal.{passed, handed_on}
 use Rattle.reach.specs.Search.{reach_in_row}
-use Rattle.reach.proofs.reach_in_row.Goals.{Else-number-ne0}
+use Rattle.reach.proofs.Laws.Answers.{row_outside, row_later}
+use Rattle.reach.proofs.reach_in_row.Goals.{In_ok-check}
 use Rattle.reach.proofs.reach_in_row.Goals as goal
 
-passed : (c : Else-number-ne0) → settings_refusal c.args.settings ≡ 0
-passed c = sym c.refusal-number.ensures ∙ c.if-number-ne0.false
+-- the settings are accepted
+accepted : (c : In_ok-check) → settings_refusal c.args.settings ≡ 0
+unfolding settings_refusal
+accepted c = passed _ tt (sym c.in_ok-check.ensures)
 
-pub returns-then-number-ne0 : goal.returns-then-number-ne0
+pub returns-in_err-check : goal.returns-in_err-check
 unfolding reach_in_row
-returns-then-number-ne0 c = rw (← c.refusal-number.ensures, ne_eqb _ _ c.if-number-ne0.true)
+returns-in_err-check c = handed_on _ _ (tt {0}) _ c.from_residual.ensures.1 (sym c.in_err-check.ensures)
 
 pub returns-then-later-f : goal.returns-then-later-f
-unfolding reach_in_row
 returns-then-later-f c = let a = c.args in
-    rw (eq-eqb _ _ (passed (goal.at.returns-then-later-f c).Else-number-ne0), le-ltb a.f a.later c.if-later-f.true)
+    sym (row_outside a.settings a.gap a.f a.later a.column (accepted (goal.at.returns-then-later-f c).In_ok-check) (inl c.if-later-f.true))
 
 pub returns-then-settings-later : goal.returns-then-settings-later
-unfolding reach_in_row
 returns-then-settings-later c = let a = c.args in
-    rw (eq-eqb _ _ (passed (goal.at.returns-then-settings-later c).Else-number-ne0), lt-ltb a.f a.later (omega (arith, c.if-later-f.false)), lt-ltb a.settings.rows a.later c.if-settings-later.true)
+    sym (row_outside a.settings a.gap a.f a.later a.column (accepted (goal.at.returns-then-settings-later c).In_ok-check) (inr c.if-settings-later.true))
 
 pub returns : goal.returns
-unfolding reach_in_row
 returns c = let a = c.args in
-    rw (eq-eqb _ _ (passed (goal.at.returns c).Else-number-ne0), lt-ltb a.f a.later (omega (arith, c.if-later-f.false)), le-ltb a.settings.rows a.later (omega (arith, c.if-settings-later.false))) c.reach.ensures
+    c.reach.ensures
+    ∙ sym (row_later a.settings a.gap a.f a.later a.column (accepted (goal.at.returns c).In_ok-check) (omega (arith, c.if-later-f.false)) (omega (arith, c.if-settings-later.false)))

@@ -10,7 +10,10 @@ use lib.Ieee.{Float, nan, inf, fin, binary64, to_bits, is_nan}
 use lib.Ieee.Exact.{HasValue}
 use native.Mathlib.Omega.{arith}
 use Rattle.seam.specs.declared.Seam.{Seam}
-use Rattle.seam.specs.declared.Seam.TheVariants.{Closed, Open, Refused}
+use Rattle.seam.specs.declared.Seam.TheVariants.{Closed, Open}
+use Rattle.settings.specs.declared.refusal.Refusal.{Refusal}
+use Rattle.std.specs.Prelude.{Result, Ok, Err}
+use Rattle.settings.specs.declared.refusal.Refusal.TheVariants.{LateSide}
 use Rattle.lines.specs.Line.{space, seam_head, seam_line, s_line, line_end, halves_words, open_words, side_word}
 use Rattle.lines.specs.Number.{hexadecimal}
 use Rattle.tables.specs.Word.{bytes, spaced}
@@ -26,11 +29,11 @@ use Rattle.tile_lines.specs.Tile.{code}
 use Rattle.lines.proofs.Laws.Number.{hexadecimal_length}
 use Rattle.seam_lines.specs.Seam.{Numbers, seam_after}
 
-pub seam_is : (l a b : ℕ) (s : Seam) → seam_after (115 ∷ space ∷ spaced l) a b s ≡ s_line l a b s
+pub seam_is : (l a b : ℕ) (s : Result Seam Refusal) → seam_after (115 ∷ space ∷ spaced l) a b s ≡ s_line l a b s
 unfolding seam_after s_line seam_line seam_head spaced
-seam_is l a b (Closed h) = simp append_assoc
-seam_is l a b (Open side) = simp append_assoc
-seam_is l a b (Refused n) = refl
+seam_is l a b (Ok (Closed h)) = simp append_assoc
+seam_is l a b (Ok (Open side)) = simp append_assoc
+seam_is l a b (Err why) = refl
 
 pub halves_length : (h : Halves) → length (halves_words h) ≤ 33
 unfolding halves_words
@@ -71,15 +74,16 @@ module _ (l : ℕ) (lf : Bool) (r : ℕ) (rf : Bool) (h : Halves) where
   in_time : (t : ℕ) (f : Bool) → f ≡ false → late t f ≡ false → t ≤ latest
   in_time t f e d = late_within t (ap (late t) (sym e) ∙ d)
 
-  closed_halves : Closed h ≡ seam_of l lf r rf → (h ≡ halves l r) × (l ≤ latest) × (r ≤ latest)
+  closed_halves : Ok (Closed h) ≡ seam_of l lf r rf → (h ≡ halves l r) × (l ≤ latest) × (r ≤ latest)
   unfolding seam_of
   closed_halves e = go (late l lf || late r rf) refl e
     where
-      go : (b : Bool) → (late l lf || late r rf) ≡ b → Closed h ≡ cond b (Refused 31) (joined lf rf (halves l r)) → (h ≡ halves l r) × (l ≤ latest) × (r ≤ latest)
+      go : (b : Bool) → (late l lf || late r rf) ≡ b → Ok (Closed h) ≡ cond b (Err LateSide) (Ok (joined lf rf (halves l r))) → (h ≡ halves l r) × (l ≤ latest) × (r ≤ latest)
       go true d z = never cc
       go false d z =
           let n = neither (late l lf) (late r rf) d in
-          let j = closed_joined lf rf (halves l r) h z in
+          let same : Closed h ≡ joined lf rf (halves l r) = cc in
+          let j = closed_joined lf rf (halves l r) h same in
           (j.2, in_time l lf j.0 n.0, in_time r rf j.1 n.1)
 
   valued : (x : Float) (s : Bool) (n d : ℕ) → HasValue x s n d → T (not (is_nan x))
@@ -88,7 +92,7 @@ module _ (l : ℕ) (lf : Bool) (r : ℕ) (rf : Bool) (h : Halves) where
   valued (inf t) s n d v = absurd v
   valued (fin t m e) s n d v = tt
 
-  pub closed_numbers : Closed h ≡ seam_of l lf r rf → Numbers h
+  pub closed_numbers : Ok (Closed h) ≡ seam_of l lf r rf → Numbers h
   unfolding HalvesExact
   closed_numbers e =
       let k = closed_halves e in

@@ -9,7 +9,9 @@ use lib.ListN.{length, get_or, length-append}
 use Rattle.columns.specs.Marks.{marked}
 use Rattle.seam.specs.Seam.{seam_of}
 use Rattle.seam.specs.declared.Seam.{Seam}
-use Rattle.seam.specs.declared.Seam.TheVariants.{Closed, Open, Refused}
+use Rattle.seam.specs.declared.Seam.TheVariants.{Closed, Open}
+use Rattle.settings.specs.declared.refusal.Refusal.{Refusal}
+use Rattle.std.specs.Prelude.{Result, Ok, Err}
 use Rattle.lines.specs.Line.{space}
 use Rattle.lines.specs.Row.{each_below, each_of, right_neighbours, seam_text}
 use Rattle.tables.specs.Word.{spaced}
@@ -36,13 +38,13 @@ module _ (head ms ts : List ℕ) where
       (ap (λ (c : ℕ). run_after head ms ts gap from (b - from) ++ line (c - gap) c) here)
 
   module _ (short : length head ≤ 7) where
-    line_length : (a b : ℕ) → a ≤ 255 → b ≤ 255 → (s : Seam) → length (seam_after head a b s) ≤ 49
+    line_length : (a b : ℕ) → a ≤ 255 → b ≤ 255 → (s : Result Seam Refusal) → length (seam_after head a b s) ≤ 49
     unfolding seam_after
-    line_length a b i j (Closed h) =
+    line_length a b i j (Ok (Closed h)) =
         simp length-append (omega (arith, short, spaced_short a (omega arith), spaced_short b (omega arith), halves_length h))
-    line_length a b i j (Open side) =
+    line_length a b i j (Ok (Open side)) =
         simp length-append (omega (arith, short, spaced_short a (omega arith), spaced_short b (omega arith), open_length side))
-    line_length a b i j (Refused n) = omega arith
+    line_length a b i j (Err why) = omega arith
 
     pub run_length : (gap from n : ℕ) → from + n ≤ 256 → length (run_after head ms ts gap from n) ≤ 49 * n
     unfolding run_after each_below

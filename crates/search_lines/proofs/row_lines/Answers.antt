@@ -1,47 +1,48 @@
 -- `row_lines` meets its contract. Assumes nothing.
-use mathlib.Core.Path.{◌≡◌, ◌∙◌, ap}
-use Prim.Native.Nat.{◌-◌, ◌≤◌, ◌<◌, min}
-use lib.ListN.{length, length-take, take}
-use native.Mathlib.Omega.{arith}
-use Rattle.columns.specs.Wrote.{Wrote}
+use Rattle.std.proofs.Common.{◌≡◌, length, take, ap, arith, length-append}
+use lib.ListN.{length-take}
+use lib.Seq.{take_all}
+use Rattle.std.proofs.lemmas.Iterator.{YieldsList-from_slice, YieldsList-from_take}
+use Rattle.std.proofs.lemmas.Iterator.Consumers.{YieldsList-turn, YieldsList-end}
 use Rattle.columns.proofs.Laws.Wrote.{wrote_none, wrote_then, wrote_as}
 use Rattle.search_lines.specs.Text.{reach_texts, gap_text}
-use Rattle.search_lines.proofs.Laws.{texts_more, texts_length, counted}
+use Rattle.search_lines.proofs.Laws.{texts_next, texts_length}
 use Rattle.search_lines.proofs.row_lines.Goals as goal
 
-pub loop-i-init : goal.loop-i-init
+pub loop-later-init : goal.loop-later-init
 unfolding reach_texts
-loop-i-init c = (omega arith, wrote_none _ _)
+loop-later-init c = wrote_none _ _
 
 pub reach_line-end-requires : goal.reach_line-end-requires
 reach_line-end-requires c = let a = c.args in
     let p = a.place in
-    let inv = c.loop-i.invariant in
-    let ls = a.asked.now in
+    let n = length c.loop-later.yielded in
+    let ls = take 16 a.asked.now in
+    let turn = YieldsList-turn (YieldsList-from_take 16 (YieldsList-from_slice a.asked.now (cc)) (cc)) c.loop-later.yielded _ c.loop-later.yielded_by _ _ c.in-Some.later c.in-Some.is c.next.ensures.steps in
     omega (
       arith,
-      inv.1.goes,
-      inv.1.as_long,
+      turn.0,
+      c.loop-later.invariant.goes,
+      c.loop-later.invariant.as_long,
       c.line-end.ensures.few,
       c.line-end.ensures.text.as_long,
-      texts_length p.settings a.gap p.row (take c.loop-i.i ls),
-      length-take c.loop-i.i ls,
+      texts_length p.settings a.gap p.row (take n ls),
+      length-take n ls,
+      length-take 16 a.asked.now,
       c.requires,
-      inv.0,
-      c.smaller-count.ensures,
     )
 
-pub loop-i-preserved : goal.loop-i-preserved
-loop-i-preserved c = let a = c.args in
-    let more : c.loop-i.i < length a.asked.now = omega (arith, c.smaller-count.ensures, c.loop-i-test.true) in
-    (omega arith, wrote_as (wrote_then c.loop-i.invariant.1 c.reach_line-end.ensures) (texts_more a.place.settings a.gap a.place.row a.asked.now c.loop-i.i more))
-
-pub shape_of-out : goal.shape_of-out
-shape_of-out c = c.loop-i.invariant.1.as_long ∙ c.line-end.ensures.text.as_long
+pub loop-later-preserved : goal.loop-later-preserved
+loop-later-preserved c = let a = c.args in
+    let ls = take 16 a.asked.now in
+    let turn = YieldsList-turn (YieldsList-from_take 16 (YieldsList-from_slice a.asked.now (cc)) (cc)) c.loop-later.yielded _ c.loop-later.yielded_by _ _ c.in-Some.later c.in-Some.is c.next.ensures.steps in
+    rw length-append
+    (wrote_as (wrote_then c.loop-later.invariant c.reach_line-end.ensures) (texts_next a.place.settings a.gap a.place.row ls (length c.loop-later.yielded) c.in-Some.later.now turn.0 turn.1))
 
 pub returns : goal.returns
 unfolding gap_text
 returns c = let a = c.args in
-    let all : c.loop-i.i ≡ min (length a.asked.now) 16 = omega (arith, c.smaller-count.ensures, c.loop-i.invariant.0, c.loop-i-test.false) in
-    wrote_then c.line-end.ensures.text
-    (wrote_as c.loop-i.invariant.1 (ap (reach_texts a.place.settings a.gap a.place.row) (counted 16 c.loop-i.i a.asked.now all)))
+    let ls = take 16 a.asked.now in
+    let all = YieldsList-end (YieldsList-from_take 16 (YieldsList-from_slice a.asked.now (cc)) (cc)) c.loop-later.yielded _ c.loop-later.yielded_by _ _ c.in-None.is c.next.ensures.steps in
+    let whole : take (length c.loop-later.yielded) ls ≡ ls = take_all (length c.loop-later.yielded) ls (omega (arith, all.1)) in
+    wrote_then c.line-end.ensures.text (wrote_as c.loop-later.invariant (ap (reach_texts a.place.settings a.gap a.place.row) whole))

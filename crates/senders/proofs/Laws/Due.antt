@@ -6,11 +6,12 @@ use Prim.Native.Nat.{ℕ, ◌+◌, ◌≤◌}
 use lib.ListN.{length}
 use native.Mathlib.Omega.{arith}
 use borrow.Author.Tests.{le-leb, lt-leb}
+use Rattle.std.specs.Prelude.{Some, None}
 use Rattle.settings.specs.Settings.{settings_refusal, step_of}
 use Rattle.settings.specs.declared.Settings.{Settings}
 use Rattle.settings.proofs.Laws.Cases.{by_order}
 use Rattle.settings.proofs.Laws.Settings.{limits}
-use Rattle.rule.specs.Stamp.{stamp_of, code_of, earliest, latest, ◌≼◌, All, none, more, silence}
+use Rattle.rule.specs.Stamp.{stamp_of, code_of, earliest, latest, ◌≼◌, All, none, more}
 use Rattle.rule.specs.Closed.{closed_P, Forwardable}
 use Rattle.rule.specs.Promises.{Tile}
 use Rattle.rule.proofs.Promises.{closed}
@@ -72,7 +73,7 @@ module _ {s : Settings} {x : Senders} (k : Sound s x) (few : unheard x ≤ 1) wh
       (forwardable {hi = last} (omega arith) (limits s k.checked) (enough (own_stamp x) (neighbour_stamps x) ends.two few) ends.ordered
       (fit_is x k.fit).own (earliest_by ends.by) (latest_by ends.by))
 
-  pub due_is : closed_P s.unit (step_of s) (stamp_of (code_at x 0)) (stamp_of (code_of (earliest (neighbour_stamps x)))) (stamp_of (code_of (latest (neighbour_stamps x)))) + s.hold
+  pub due_is : Some (closed_P s.unit (step_of s) (stamp_of (code_at x 0)) (stamp_of (code_of (earliest (neighbour_stamps x)))) (stamp_of (code_of (latest (neighbour_stamps x)))) + s.hold)
       ≡ due_code s x
   unfolding due_code due own_stamp stamp_at
   due_is =
@@ -87,6 +88,6 @@ module _ {s : Settings} {x : Senders} (k : Sound s x) (few : unheard x ≤ 1) wh
       ≤ 4398047698604
   due_small = omega (arith, P_small asked, (limits s k.checked).hold.1)
 
-pub no_due : (s : Settings) (x : Senders) → 2 ≤ unheard x → silence ≡ due_code s x
+pub no_due : (s : Settings) (x : Senders) → 2 ≤ unheard x → None ≡ due_code s x
 unfolding due_code
 no_due s x i = rw (too_few (unheard x) i)

@@ -6,8 +6,9 @@ use native.Mathlib.Omega.{arith}
 use lib.Dec.{ltb}
 use borrow.Author.Tests.{ltb-false}
 use Rattle.settings.specs.Refusal.{outside}
-use Rattle.settings.specs.Settings.{drift_cost, step, settings_tests, settings_refusal}
+use Rattle.settings.specs.Settings.{drift_cost, step, settings_tests, settings_cause, settings_refusal}
 use Rattle.settings.specs.declared.Settings.{Settings}
+use Rattle.settings.specs.declared.refusal.Refusal.TheVariants as why
 pub use Rattle.settings.specs.Limits.{Limits}
 use Rattle.settings.proofs.Laws.Refusal.{unhit, inside}
 use Rattle.settings.proofs.Laws.Rounding.{up_reaches, up_least}
@@ -25,17 +26,17 @@ step_small h r i k =
 
 -- settings that are not turned away keep their limits
 pub limits : (s : Settings) → settings_refusal s ≡ 0 → Limits s
-unfolding settings_refusal settings_tests drift_cost
+unfolding settings_refusal settings_cause settings_tests drift_cost
 limits s e =
-    let t1 = unhit 0 (outside 6 256 s.width) _ e in
-    let t2 = unhit 1 (outside 1 1024 s.rows) _ t1.1 in
-    let t3 = unhit 2 (outside 1 1000000 s.delay) _ t2.1 in
-    let t4 = unhit 3 (outside 0 s.delay s.uncertainty) _ t3.1 in
-    let t5 = unhit 4 (outside 1 1000000 s.hold) _ t4.1 in
-    let t6 = unhit 5 (outside 0 10000 s.drift) _ t5.1 in
-    let t7 = unhit 6 (outside 1 62500 s.unit) _ t6.1 in
-    let t8 = unhit 7 (ltb s.unit (s.uncertainty + drift_cost s.drift s.hold + 2)) _ t7.1 in
-    let t9 = unhit 8 (ltb s.hold (16 * s.unit)) _ t8.1 in
+    let t1 = unhit why.Width (outside 6 256 s.width) _ e in
+    let t2 = unhit why.Rows (outside 1 1024 s.rows) _ t1.1 in
+    let t3 = unhit why.Delay (outside 1 1000000 s.delay) _ t2.1 in
+    let t4 = unhit why.Uncertainty (outside 0 s.delay s.uncertainty) _ t3.1 in
+    let t5 = unhit why.Hold (outside 1 1000000 s.hold) _ t4.1 in
+    let t6 = unhit why.Drift (outside 0 10000 s.drift) _ t5.1 in
+    let t7 = unhit why.Unit (outside 1 62500 s.unit) _ t6.1 in
+    let t8 = unhit why.UnitCost (ltb s.unit (s.uncertainty + drift_cost s.drift s.hold + 2)) _ t7.1 in
+    let t9 = unhit why.UnitsHeld (ltb s.hold (16 * s.unit)) _ t8.1 in
     record {
       width = omega (arith, inside 6 256 s.width t1.0);
       rows = omega (arith, inside 1 1024 s.rows t2.0);

@@ -14,32 +14,30 @@ use Rattle.stages.specs.Fit.{place_fits, wall_fits}
 use Rattle.steps.specs.Step.{step_of}
 use Rattle.row.specs.Row.{Pulses, pulses}
 use Rattle.lines.specs.Line.{refused_line}
-use Rattle.steps.specs.Take.{taken, taken_of}
+use Rattle.settings.specs.Refusal.{number}
+use Rattle.settings.proofs.Laws.Refusal.{numbered}
+use Rattle.steps.specs.Take.{taken_of}
 use Rattle.stages.specs.declared.Place.{Place}
-use Rattle.steps.specs.declared.Taken.{Taken}
 use Rattle.stages.specs.declared.Wall.TheVariants.{Row, End}
 use Rattle.stages.proofs.Laws.{Fit, fit_of}
-use Rattle.show.proofs.Laws.{away_shows, new_shows, over_shows, start_shows, row_shows, row_marks, end_shows}
-use Rattle.show.proofs.show.Goals.{Else-number-ne0, Start}
+use Rattle.show.proofs.Laws.{taken_err, taken_ok, away_shows, new_shows, over_shows, start_shows, row_shows, row_marks, end_shows}
+use Rattle.show.proofs.show.Goals.{In-Ok, In-Err, Start}
 use Rattle.show.proofs.show.Goals as goal
 
 -- the row that is shown
 abbrev last : Start → Pulses
 last s = pulses s.args.row.now s.args.letters.now
 
--- the number and the offset are the step's
-number : (s : Start) → let a = s.args in a.taken.number ≡ number_shown (step_of a.wall (last s) a.part.now).shows
-unfolding taken_of taken
-number s = ap (λ (t : Taken). t.number) s.requires.4
+-- the refusal is the one that the step shows
+refusal : (c : In-Err) → let a = c.args in let xs = (step_of a.wall (pulses a.row.now a.letters.now) a.part.now).shows in
+    (number c.in-Err.refused.refusal ≡ number_shown xs) × (c.in-Err.refused.offset ≡ offset_shown xs)
+unfolding taken_of
+refusal c = taken_err _ _ (sym c.requires.4 ∙ c.in-Err.is)
 
-offset : (s : Start) → let a = s.args in a.taken.offset ≡ offset_shown (step_of a.wall (last s) a.part.now).shows
-unfolding taken_of taken
-offset s = ap (λ (t : Taken). t.offset) s.requires.4
-
-accepted : (c : Else-number-ne0) →
+accepted : (c : In-Ok) →
     number_shown (step_of c.args.wall (pulses c.args.row.now c.args.letters.now) c.args.part.now).shows ≡ 0
-unfolding taken_of taken
-accepted c = sym (ap (λ (t : Taken). t.number) c.requires.4) ∙ c.if-number-ne0.false
+unfolding taken_of
+accepted c = taken_ok _ _ (sym c.requires.4 ∙ c.in-Ok.is)
 
 -- the wall's place fits its rows
 row_fits : (s : Start) {p : Place} → s.args.wall ≡ Row p → (place_fits p (length s.args.row.now) ≡ true) × (place_fits p (length s.args.letters.now) ≡ true)
@@ -54,19 +52,21 @@ marks : (s : Start) {p : Place} {ms : List ℕ} → Fit p (length s.args.row.now
 unfolding marks_in mark_bytes
 marks s f e = e ∙ ap (λ (n : ℕ). body ((n + 7) / 8) s.args.part.now) f.long
 
-pub returns-then-number-ne0 : goal.returns-then-number-ne0
-returns-then-number-ne0 c = let a = c.args in
+pub returns-in-Err : goal.returns-in-Err
+returns-in-Err c = let a = c.args in
+    let r = refusal (goal.at.returns-in-Err c).In-Err in
+    let is = c.from-number.ensures ∙ c.number.ensures in
     wrote_as c.refused_line.ensures
-    (ap (λ (n : ℕ). refused_line n a.taken.offset) (number (goal.at.returns-then-number-ne0 c).Start)
-    ∙ ap (refused_line _) (offset (goal.at.returns-then-number-ne0 c).Start)
-    ∙ sym (away_shows a.wall (last (goal.at.returns-then-number-ne0 c).Start) a.part.now (λ z. c.if-number-ne0.true (number (goal.at.returns-then-number-ne0 c).Start ∙ z))))
+    (ap (λ (n : ℕ). refused_line n c.in-Err.refused.offset) (is ∙ r.0)
+    ∙ ap (refused_line _) r.1
+    ∙ sym (away_shows a.wall (last (goal.at.returns-in-Err c).Start) a.part.now (λ z. numbered c.in-Err.refused.refusal (r.0 ∙ z))))
 
 pub lines-requires : goal.lines-requires
 unfolding marks_in mark_bytes
 lines-requires c = let a = c.args in
     let g = row_fits (goal.at.lines-requires c).Start c.in-Row.is in
     let f = fit_of _ _ g.0 in
-    (c.requires.0, g.0, g.1, ap length (marks (goal.at.lines-requires c).Start f c.body-marks.ensures) ∙ row_marks a.wall (last (goal.at.lines-requires c).Start) a.part.now (accepted (goal.at.lines-requires c).Else-number-ne0) c.in-Row.is ∙ ap mark_bytes (sym f.long), c.requires.3)
+    (c.requires.0, g.0, g.1, ap length (marks (goal.at.lines-requires c).Start f c.body-marks.ensures) ∙ row_marks a.wall (last (goal.at.lines-requires c).Start) a.part.now (accepted (goal.at.lines-requires c).In-Ok) c.in-Row.is ∙ ap mark_bytes (sym f.long), c.requires.3)
 
 pub last_lines-requires : goal.last_lines-requires
 last_lines-requires c = let g = end_fits (goal.at.last_lines-requires c).Start c.in-End.is in
@@ -74,11 +74,11 @@ last_lines-requires c = let g = end_fits (goal.at.last_lines-requires c).Start c
 
 pub returns-in-New : goal.returns-in-New
 returns-in-New c = let a = c.args in
-    wrote_as (wrote_none a.out.now a.at) (sym (new_shows a.wall (last (goal.at.returns-in-New c).Start) a.part.now (accepted (goal.at.returns-in-New c).Else-number-ne0) c.in-New.is))
+    wrote_as (wrote_none a.out.now a.at) (sym (new_shows a.wall (last (goal.at.returns-in-New c).Start) a.part.now (accepted (goal.at.returns-in-New c).In-Ok) c.in-New.is))
 
 pub returns-in-Start : goal.returns-in-Start
 returns-in-Start c = let a = c.args in
-    wrote_as (wrote_none a.out.now a.at) (sym (start_shows a.wall (last (goal.at.returns-in-Start c).Start) a.part.now (accepted (goal.at.returns-in-Start c).Else-number-ne0) c.in-Start.is))
+    wrote_as (wrote_none a.out.now a.at) (sym (start_shows a.wall (last (goal.at.returns-in-Start c).Start) a.part.now (accepted (goal.at.returns-in-Start c).In-Ok) c.in-Start.is))
 
 pub returns-in-Row : goal.returns-in-Row
 unfolding marks_in mark_bytes
@@ -86,12 +86,12 @@ returns-in-Row c = let a = c.args in
     let p = c.in-Row.place in
     wrote_as c.lines.ensures
     (ap (λ (ms : List ℕ). texts_of (row_shown p.settings p.row ms (last (goal.at.returns-in-Row c).Start))) (marks (goal.at.returns-in-Row c).Start (fit_of _ _ (row_fits (goal.at.returns-in-Row c).Start c.in-Row.is).0) c.body-marks.ensures)
-    ∙ sym (row_shows a.wall (last (goal.at.returns-in-Row c).Start) a.part.now (accepted (goal.at.returns-in-Row c).Else-number-ne0) c.in-Row.is))
+    ∙ sym (row_shows a.wall (last (goal.at.returns-in-Row c).Start) a.part.now (accepted (goal.at.returns-in-Row c).In-Ok) c.in-Row.is))
 
 pub returns-in-End : goal.returns-in-End
 returns-in-End c = let a = c.args in
-    wrote_as c.last_lines.ensures (sym (end_shows a.wall (last (goal.at.returns-in-End c).Start) a.part.now (accepted (goal.at.returns-in-End c).Else-number-ne0) c.in-End.is))
+    wrote_as c.last_lines.ensures (sym (end_shows a.wall (last (goal.at.returns-in-End c).Start) a.part.now (accepted (goal.at.returns-in-End c).In-Ok) c.in-End.is))
 
 pub returns-in-Over : goal.returns-in-Over
 returns-in-Over c = let a = c.args in
-    wrote_as (wrote_none a.out.now a.at) (sym (over_shows a.wall (last (goal.at.returns-in-Over c).Start) a.part.now (accepted (goal.at.returns-in-Over c).Else-number-ne0) c.in-Over.is))
+    wrote_as (wrote_none a.out.now a.at) (sym (over_shows a.wall (last (goal.at.returns-in-Over c).Start) a.part.now (accepted (goal.at.returns-in-Over c).In-Ok) c.in-Over.is))

@@ -3,12 +3,11 @@ use mathlib.Core.Path.{refl, sym, ◌∙◌, ap}
 use lib.ListN.{length}
 use Rattle.row.specs.Row.{Pulses, pulses}
 use Rattle.steps.specs.Step.{stepped, step_of}
-use Rattle.steps.specs.Shown.{number_shown, offset_shown}
 use Rattle.stages.specs.Fit.{wall_fits}
 use Rattle.steps.specs.Take.{taken_of, step_from, next_row}
 use Rattle.stages.specs.declared.Wall.{Wall}
 use Rattle.stages.specs.declared.Wall.TheVariants.{New, Over}
-use Rattle.steps.proofs.Laws.Taken.{by_wall}
+use Rattle.steps.proofs.Laws.Taken.{by_wall, none_taken}
 use Rattle.steps.proofs.take_fit.Goals.{Start}
 use Rattle.steps.proofs.take_fit.Goals as goal
 
@@ -49,5 +48,5 @@ unfolding step_from step_of next_row
 returns-in-End c = by_wall {held = held (goal.at.returns-in-End c).Start} {next = held (goal.at.returns-in-End c).Start} _ c.in-End.is (c.end.ensures (from (goal.at.returns-in-End c).Start)) refl
 
 pub returns-in-Over : goal.returns-in-Over
-unfolding step_from step_of next_row taken_of stepped number_shown offset_shown
-returns-in-Over c = by_wall {held = held (goal.at.returns-in-Over c).Start} {next = held (goal.at.returns-in-Over c).Start} Over c.in-Over.is (c.went_on.ensures ∙ rw c.in-Over.is) refl
+unfolding step_from step_of next_row taken_of stepped
+returns-in-Over c = by_wall {held = held (goal.at.returns-in-Over c).Start} {next = held (goal.at.returns-in-Over c).Start} Over c.in-Over.is (rw c.in-Over.is (sym (none_taken Over))) refl

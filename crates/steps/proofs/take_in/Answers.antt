@@ -1,5 +1,5 @@
 -- `take_in` meets its contract: all three fit, or the first that does not. Assumes nothing.
-use mathlib.Core.Path.{refl, sym, ◌∙◌}
+use mathlib.Core.Path.{sym, ◌∙◌}
 use Rattle.row.specs.Row.{pulses}
 use Rattle.steps.specs.Take.{all_fit}
 use Rattle.steps.proofs.Laws.Taken.{unfit, taking}
@@ -29,6 +29,6 @@ take_fit-requires c =
 pub returns : goal.returns
 unfolding all_fit
 returns c = let a = c.args in
-    taking a.wall a.part.now a.row.now (pulses a.next.now a.letters.now) a.wall refl
+    taking a.wall a.part.now a.row.now (pulses a.next.now a.letters.now)
     (rw (sym c.fits.ensures ∙ c.if-not-fits.false, sym c.fits-2.ensures ∙ c.if-not-fits-2.false, sym c.fits-3.ensures ∙ c.if-not-fits-3.false))
-    c.take_fit.ensures.is c.take_fit.ensures.written
+    c.take_fit.ensures

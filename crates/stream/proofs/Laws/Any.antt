@@ -2,6 +2,7 @@
 use mathlib.Core.Path.{◌≡◌, refl}
 use mathlib.Core.Bool.{true}
 use mathlib.Core.List.{List, [], ◌++◌, append-nil}
+use Rattle.std.specs.Prelude.{Ok}
 use Prim.Native.Nat.{ℕ, zero, suc, ◌≤◌}
 use native.Mathlib.Omega.{arith}
 use lib.ListN.{take, drop}
@@ -14,7 +15,6 @@ use Rattle.file.specs.Stands.{Stands, steps_left}
 use Rattle.file.proofs.Laws.Stands.{Ahead, none_due}
 use Rattle.stream.specs.Run.{Kind, brings, Turns, begins, reads, ends, steps}
 use Rattle.stream.specs.Promises.{DoneWith, AnyFile}
-use Rattle.stream.specs.declared.Ended.TheVariants.{Done}
 
 module _ {K : Type 0} (step : Kind K) (first : K)
     (ahead : (x : Wall) (k : K) (ts : Pulses) (part : List ℕ) → Stands x → (due_of x ≡ 0 → ⊥) → Ahead (step x k ts part).wall (steps_left x))
@@ -25,7 +25,7 @@ module _ {K : Type 0} (step : Kind K) (first : K)
       DoneWith step first delivered
   at_the_end x k lent held delivered text over t =
       record {
-        outcome = record { ended = Done; state = record { wall = x; window = record { start = 0; end = 0; ended = true }; text = 0 } };
+        outcome = record { ended = Ok tt; state = record { wall = x; window = record { start = 0; end = 0; ended = true }; text = 0 } };
         keeps = k;
         lent = lent;
         output = [];

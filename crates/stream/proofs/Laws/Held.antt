@@ -9,10 +9,12 @@ use borrow.Author.Tests.{ltb-true, ltb-false}
 use lib.Dec.{eqb, ltb}
 use lib.ListN.{length, take, drop, length-take, length-drop}
 use lib.Seq.{take-append-le, drop-append-le}
+use Rattle.std.specs.Prelude.{Option, Some, None}
+use Rattle.settings.specs.declared.refusal.Refusal.{Refusal}
 use Rattle.row.specs.Row.{Pulses, cut}
-use Rattle.steps.specs.Number.{settings_number, start_number, row_number}
+use Rattle.steps.specs.Number.{settings_field_cause, start_cause, row_fields_cause}
 use Rattle.stages.specs.Fit.{place, passes, width_of}
-use Rattle.steps.specs.Step.{stepped, away, settings_step, start_step, after_row, row_step, end_step, step_of}
+use Rattle.steps.specs.Step.{stepped, away, unless, settings_step, start_step, after_row, row_step, end_step, step_of}
 use Rattle.stages.specs.declared.Place.{Place}
 use Rattle.stages.specs.declared.Wall.{Wall}
 use Rattle.stages.specs.declared.Wall.TheVariants.{New, Start, Row, End, Over}
@@ -23,17 +25,17 @@ use Rattle.window.specs.declared.Window.{Window}
 abbrev Kept : Wall → (row : Pulses) → (part : List ℕ) → Type 0
 Kept x ts bs = (width_of (step_of x ts bs).next ≡ width_of x) ⊎ ((step_of x ts bs).next ≡ Over)
 
-kept_start : (p : Place) (ts : Pulses) (bs : List ℕ) (b : Bool) → eqb (start_number p.settings bs) 0 ≡ b → Kept (Start p) ts bs
-unfolding step_of start_step stepped away place width_of passes
-kept_start p ts bs true e = rw e (inl refl)
-kept_start p ts bs false e = rw e (inr refl)
+kept_start : (p : Place) (ts : Pulses) (bs : List ℕ) (o : Option Refusal) → start_cause p.settings bs ≡ o → Kept (Start p) ts bs
+unfolding step_of start_step unless stepped away place width_of passes
+kept_start p ts bs None e = rw e (inl refl)
+kept_start p ts bs (Some why) e = rw e (inr refl)
 
-kept_row : (p : Place) (ts : Pulses) (bs : List ℕ) (b m : Bool) → eqb (row_number p.settings ts.times bs) 0 ≡ b → ltb (suc p.row) p.settings.rows ≡ m →
-    Kept (Row p) ts bs
-unfolding step_of row_step after_row stepped away place width_of passes
-kept_row p ts bs true true e f = rw (e, f) (inl refl)
-kept_row p ts bs true false e f = rw (e, f) (inl refl)
-kept_row p ts bs false m e f = rw e (inr refl)
+kept_row : (p : Place) (ts : Pulses) (bs : List ℕ) (o : Option Refusal) (m : Bool) → row_fields_cause p.settings ts.times bs ≡ o →
+    ltb (suc p.row) p.settings.rows ≡ m → Kept (Row p) ts bs
+unfolding step_of row_step after_row unless stepped away place width_of passes
+kept_row p ts bs None true e f = rw (e, f) (inl refl)
+kept_row p ts bs None false e f = rw (e, f) (inl refl)
+kept_row p ts bs (Some why) m e f = rw e (inr refl)
 
 kept_end : (p : Place) (ts : Pulses) (bs : List ℕ) (b : Bool) → eqb (length bs) 0 ≡ b → Kept (End p) ts bs
 unfolding step_of end_step stepped away
@@ -60,17 +62,18 @@ module _ (P : Wall → (row : Pulses) → List ℕ) (start : (p : Place) (us vs 
   by_kept x ts bs us row (inl e) h = rw e (unless_over (step_of x ts bs).next (cut (width_of x) us) row h)
   by_kept x ts bs us row (inr e) h = rw e (over (cut (width_of Over) us) row)
 
-  new_any : (ts : Pulses) (bs : List ℕ) (us vs : Pulses) (b : Bool) → eqb (settings_number bs) 0 ≡ b → P (step_of New ts bs).next us ≡ P (step_of New ts bs).next vs
-  unfolding step_of settings_step stepped away
-  new_any ts bs us vs true e = rw e (start _ us vs)
-  new_any ts bs us vs false e = rw e (over us vs)
+  new_any : (ts : Pulses) (bs : List ℕ) (us vs : Pulses) (o : Option Refusal) → settings_field_cause bs ≡ o →
+      P (step_of New ts bs).next us ≡ P (step_of New ts bs).next vs
+  unfolding step_of settings_step unless stepped away
+  new_any ts bs us vs None e = rw e (start _ us vs)
+  new_any ts bs us vs (Some why) e = rw e (over us vs)
 
   pub row_kept : (x : Wall) (ts : Pulses) (bs : List ℕ) (us row : Pulses) → (((step_of x ts bs).next ≡ Over → ⊥) → cut (width_of x) us ≡ row) →
       P (step_of x ts bs).next (cut (width_of (step_of x ts bs).next) us) ≡ P (step_of x ts bs).next row
-  row_kept New ts bs us row h = new_any ts bs (cut (width_of (step_of New ts bs).next) us) row (eqb (settings_number bs) 0) refl
-  row_kept (Start p) ts bs us row h = by_kept (Start p) ts bs us row (kept_start p ts bs (eqb (start_number p.settings bs) 0) refl) h
+  row_kept New ts bs us row h = new_any ts bs (cut (width_of (step_of New ts bs).next) us) row (settings_field_cause bs) refl
+  row_kept (Start p) ts bs us row h = by_kept (Start p) ts bs us row (kept_start p ts bs (start_cause p.settings bs) refl) h
   row_kept (Row p) ts bs us row h =
-      by_kept (Row p) ts bs us row (kept_row p ts bs (eqb (row_number p.settings ts.times bs) 0) (ltb (suc p.row) p.settings.rows) refl refl) h
+      by_kept (Row p) ts bs us row (kept_row p ts bs (row_fields_cause p.settings ts.times bs) (ltb (suc p.row) p.settings.rows) refl refl) h
   row_kept (End p) ts bs us row h = by_kept (End p) ts bs us row (kept_end p ts bs (eqb (length bs) 0) refl) h
   row_kept Over ts bs us row h = by_kept Over ts bs us row (kept_over ts bs) h
 

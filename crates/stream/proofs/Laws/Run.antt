@@ -2,6 +2,7 @@
 use mathlib.Core.Path.{◌≡◌, refl, sym, ◌∙◌, ap}
 use mathlib.Core.Bool.{Bool, true, false, cond}
 use mathlib.Core.List.{List, [], ◌++◌, append-nil, append_assoc}
+use Rattle.std.specs.Prelude.{Result, Ok, Err}
 use Prim.Native.Nat.{ℕ, ◌-◌, ◌<◌}
 use native.Mathlib.Omega.{arith}
 use lib.ListN.{length, take, drop, take-append-drop}
@@ -16,11 +17,14 @@ use Rattle.stream.specs.Run.{Brought, Kind, brings, begins, reads, ends, steps, 
 use Rattle.stream.specs.State.{Starts, to_hand, MadeReady, stepped, Advanced, Standing, finished, Ends}
 use Rattle.stream.specs.Promises.{TurnRight}
 use Rattle.stream.specs.declared.State.{State}
-use Rattle.stream.specs.declared.Ended.{Ended}
-use Rattle.stream.specs.declared.Ended.TheVariants.{Done, ReadFailed, WriteFailed}
+use Rattle.stream.specs.declared.Failed.{Failed}
+use Rattle.stream.specs.declared.Failed.TheVariants as failed
 use Rattle.stream.specs.declared.Outcome.{Outcome}
 use Rattle.stream.proofs.Laws.State.{starts_between, ready_between, rest_left, left_within, wrote_within}
 use Rattle.stream.proofs.Laws.Held.{lack_held, enough_held}
+
+failed_not_done : (e : Failed) → ◌≡◌ {A = Result Unit Failed} (Err e) (Ok tt) → ⊥
+failed_not_done e d = cc
 
 module _ {K : Type 0} (step : Kind K) (first : K) where
   pub begun : (s : State) (input : List ℕ) (lent : Pulses) (output : List ℕ) → Starts s → Standing step first s first input lent output
@@ -150,22 +154,22 @@ module _ {K : Type 0} (step : Kind K) (first : K) where
       turn_standing ahead s m r k l input lent output after lent_after output_after some i made went
 
   -- a turn that failed ends the run where it began
-  pub stopped : (s : State) (k : K) (input : List ℕ) (lent : Pulses) (output : List ℕ) (e : Ended) → (e ≡ Done → ⊥) → Standing step first s k input lent output →
-      Ends step first (record { ended = e; state = s }) k lent output
-  stopped s k input lent output e never i = record { held = bytes_in s.window input; ran = i.ran; done = λ d. absurd (never d) }
+  pub stopped : (s : State) (k : K) (input : List ℕ) (lent : Pulses) (output : List ℕ) (e : Failed) → Standing step first s k input lent output →
+      Ends step first (record { ended = Err e; state = s }) k lent output
+  stopped s k input lent output e i = record { held = bytes_in s.window input; ran = i.ran; done = λ d. absurd (failed_not_done e d) }
 
   -- the last text
-  finished_at : (s t : State) (k : K) (input : List ℕ) (lent : Pulses) (output : List ℕ) (e : Ended) → s.wall ≡ Over → Standing step first s k input lent output →
+  finished_at : (s t : State) (k : K) (input : List ℕ) (lent : Pulses) (output : List ℕ) (e : Result Unit Failed) → s.wall ≡ Over → Standing step first s k input lent output →
       finished s e t → Ends step first (record { ended = e; state = t }) k lent output
   unfolding finished
-  finished_at s t k input lent output Done over i f =
+  finished_at s t k input lent output (Ok x) over i f =
       record {
         held = bytes_in s.window input;
         ran = rw f (handed_on output s.text 0 true refl i.ran);
         done = λ _. (ap (λ (u : State). u.wall) f ∙ over, ap (λ (u : State). u.text) f);
       }
-  finished_at s t k input lent output ReadFailed over i f = absurd f
-  finished_at s t k input lent output WriteFailed over i f = rw f (stopped s k input lent output WriteFailed (λ e. let z : ◌≡◌ {A = ℕ} 0 1 = cc in omega (arith, z)) i)
+  finished_at s t k input lent output (Err failed.Read) over i f = absurd f
+  finished_at s t k input lent output (Err failed.Write) over i f = rw f (stopped s k input lent output failed.Write i)
 
   pub finishes : (s : State) (r : Outcome) (k : K) (input : List ℕ) (lent : Pulses) (output : List ℕ) → s.wall ≡ Over → Standing step first s k input lent output →
       finished s r.ended r.state → Ends step first r k lent output

@@ -2,6 +2,7 @@
 use mathlib.Core.Path.{◌≡◌, refl, sym, ◌∙◌, ap}
 use mathlib.Core.Bool.{Bool, true, false}
 use mathlib.Core.List.{List, ◌++◌}
+use Rattle.std.specs.Prelude.{Result, Ok}
 use Prim.Native.Nat.{ℕ, ◌+◌, ◌-◌, ◌≤◌, ◌<◌, min}
 use native.Mathlib.Omega.{arith}
 use borrow.Author.Tests.{lt-ltb, le-ltb, ltb-true, ltb-false}
@@ -16,16 +17,7 @@ use Rattle.file.specs.Stands.{Stands}
 use Rattle.stream.specs.State.{Between, Starts, to_hand, MadeReady, made_ready}
 use Rattle.stream.specs.declared.State.{State}
 use Rattle.window.specs.declared.Window.{Window}
-use Rattle.window.specs.declared.Reading.{Reading}
-use Rattle.window.specs.declared.Reading.TheVariants.{Ready}
-use Rattle.stream.specs.declared.Ended.{Ended}
-use Rattle.stream.specs.declared.Ended.TheVariants.{Done, ReadFailed, WriteFailed}
-use Rattle.stream.specs.declared.Turn.{Turn}
-use Rattle.stream.specs.declared.Turn.TheVariants.{On, Stop}
 use Rattle.window.proofs.Laws.Window.{filled_already}
-
-one_is_not : ◌≡◌ {A = ℕ} 0 1 → ⊥
-one_is_not e = omega (arith, e)
 
 -- the first state stands between nothing and nothing
 pub starts_between : (s : State) (n m : ℕ) → Starts s → Between s n m
@@ -38,8 +30,8 @@ module _ (s : State) (before : List ℕ) (n due : ℕ) (due_is : due ≡ due_of 
   same_lack e = ap (lacking s.window) (sym due_is) ∙ e
 
   -- nothing is lacking, and there is room
-  pub at_once : Between s (length before) n → lacking s.window due ≡ false → s.text + step_room ≤ n → made_ready s before n (On s) before
-  unfolding made_ready filled_up to_hand
+  pub at_once : Between s (length before) n → lacking s.window due ≡ false → s.text + step_room ≤ n → made_ready s before n (Ok s) before
+  unfolding to_hand
   at_once b e i =
       record {
         wall = refl;
@@ -59,27 +51,18 @@ module _ (s : State) (before : List ℕ) (n due : ℕ) (due_is : due ≡ due_of 
   hand_full e i = rw (same_lack e, lt-ltb n (s.text + step_room) i)
 
   -- handed over, and then filled
-  pub filled_next : (f : Reading) (w : Window) (text : ℕ) (after : List ℕ) → f ≡ Ready w → text ≡ 0 → to_hand s n ≡ true → step_room ≤ n →
-      (lacking s.window due ≡ false → (f ≡ Ready s.window) × (after ≡ before)) →
+  pub filled_next : {E : Type 0} (f : Result Window E) (w : Window) (after : List ℕ) → f ≡ Ok w → to_hand s n ≡ true → step_room ≤ n →
+      (lacking s.window due ≡ false → (f ≡ Ok s.window) × (after ≡ before)) →
       filled_up s.window due before f after →
-      made_ready s before n (On (record { wall = s.wall; window = w; text = text })) after
-  unfolding made_ready filled_up
-  filled_next f w text after e none t i idle up =
+      made_ready s before n (Ok (record { wall = s.wall; window = w; text = 0 })) after
+  filled_next f w after e t i idle up =
       record {
         wall = refl;
         filled = rw due_is at (rw e at up);
         idle = λ k. let q = idle (ap (lacking s.window) due_is ∙ k) in let same : w ≡ s.window = cc in (same, q.1);
-        text = rw (t, none);
-        room = rw none i;
+        text = rw t;
+        room = i;
       }
-
-  pub not_handed : (after : List ℕ) → made_ready s before n (Stop WriteFailed) after
-  unfolding made_ready
-  not_handed after e = let z : ◌≡◌ {A = ℕ} 0 1 = cc in one_is_not z
-
-  pub not_read : (after : List ℕ) → made_ready s before n (Stop ReadFailed) after
-  unfolding made_ready
-  not_read after e = let z : ◌≡◌ {A = ℕ} 0 1 = cc in one_is_not z
 
 -- the due part of a part, or what there is of it
 take_both : (a b : ℕ) (xs : List ℕ) (t : Bool) → ltb b a ≡ t → take a (take b xs) ≡ take (min a b) xs
@@ -138,15 +121,6 @@ pub wrote_within : (before : List ℕ) (at : ℕ) (text after : List ℕ) (end :
 wrote_within before at text after end i w =
     let long : min end (length after) ≡ min at (length before) + length text = simp (length-take, length-append) at (ap length w.holds) in
     omega (arith, w.goes)
-
-pub ready_on : (s : State) (before : List ℕ) (n : ℕ) (t : Turn) (r : State) (after : List ℕ) → t ≡ On r → made_ready s before n t after →
-    MadeReady s before n r after
-unfolding made_ready
-ready_on s before n t r after e m = rw e at m
-
-pub ready_off : (s : State) (before : List ℕ) (n : ℕ) (t : Turn) (e : Ended) (after : List ℕ) → t ≡ Stop e → made_ready s before n t after → e ≡ Done → ⊥
-unfolding made_ready
-ready_off s before n t e after is m = rw is at m
 
 pub ready_between : (s : State) (before : List ℕ) (n : ℕ) (r : State) (after : List ℕ) → Between s (length before) n → MadeReady s before n r after →
     Between r (length after) n

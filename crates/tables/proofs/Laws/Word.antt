@@ -5,14 +5,16 @@ use mathlib.Core.List.{List, [], ◌∷◌, ◌++◌}
 use Prim.Native.Nat.{ℕ, zero, suc, ◌+◌, ◌*◌, ◌/◌, ◌%◌, ◌^◌, ◌≤◌, ◌<◌}
 use native.Mathlib.Nat.{div-div-eq-div-mul, pow-succ'}
 use native.Mathlib.Omega.{arith}
-use lib.ListN.{length, take, drop, set, length-append}
+use lib.ListN.{length, take, drop, length-append, length-take, length-drop}
 use lib.Seq.{take-take, take-append-add, length-take-le}
 use Rattle.lines.specs.Number.{glyph, decimal_in, decimal, hexadecimal}
 use Rattle.tables.specs.Word.{bytes, word_of, padded, spaced}
 use Rattle.columns.specs.Wrote.{Wrote}
 use Rattle.settings.proofs.Laws.Cases.{by_order}
 use Rattle.lines.proofs.Laws.Number.{glyph_low, glyph_high, one_digit, more_digits}
-use Rattle.columns.proofs.Laws.Wrote.{wrote_none, wrote_more, wrote_as}
+use Rattle.columns.proofs.Laws.Wrote.{wrote_as}
+use Rattle.std.proofs.lemmas.Slice.{take-put_mid}
+use borrow.Rule.Slice.PartMut.{put_mid}
 
 -- bytes
 pub data Small : List ℕ → Type 0 where
@@ -130,26 +132,10 @@ module _ (w : ℕ) {a b : List ℕ} {at : ℕ} (wrote : Wrote a at (bytes 8 w) b
   wrote_text {xs} s k l i e =
       wrote_as (wrote_bytes k i) (ap (λ (n : ℕ). bytes n w) (sym l) ∙ ap (λ (n : ℕ). bytes (length xs) n) e ∙ bytes_word s)
 
--- eight stores write a word
-next : {a b t : List ℕ} {at end : ℕ} → Wrote a at t b end → (p v : ℕ) → p ≡ end → p < length a → Wrote a at (t ++ (v ∷ [])) (set b p v) (p + 1)
-next w p v e i = wrote_more (rw (sym e) at w) v i refl refl
-
-module _ (a : List ℕ) (at : ℕ) (room : at + 8 ≤ length a) (v₀ v₁ v₂ v₃ v₄ v₅ v₆ v₇ : ℕ) where
-  pub wrote_eight :
-      Wrote a at (v₀ ∷ v₁ ∷ v₂ ∷ v₃ ∷ v₄ ∷ v₅ ∷ v₆ ∷ v₇ ∷ [])
-      (set (set (set (set (set (set (set (set a at v₀) (at + 1) v₁) (at + 2) v₂) (at + 3) v₃) (at + 4) v₄) (at + 5) v₅) (at + 6) v₆) (at + 7) v₇)
-      (at + 8)
-  wrote_eight =
-      let one = next (wrote_none a at) at v₀ refl (omega arith) in
-      let two = next one (at + 1) v₁ refl (omega arith) in
-      let three = next two (at + 2) v₂ (omega arith) (omega arith) in
-      let four = next three (at + 3) v₃ (omega arith) (omega arith) in
-      let five = next four (at + 4) v₄ (omega arith) (omega arith) in
-      let six = next five (at + 5) v₅ (omega arith) (omega arith) in
-      let seven = next six (at + 6) v₆ (omega arith) (omega arith) in
-      let eight = next seven (at + 7) v₇ (omega arith) (omega arith) in
-      let end : at + 7 + 1 ≡ at + 8 = omega arith in
-      rw end at eight
+-- a part that was written in its place
+pub wrote_part : (m at end : ℕ) (t p : List ℕ) → m ≡ length p → end ≡ at + length p → end ≤ length t → Wrote t at p (put_mid at m t p) end
+wrote_part m at end t p same ends room =
+    record { as_long = simp (length-append, length-take, length-drop) (omega arith); goes = ends; holds = take-put_mid at m t p end ends (omega arith) }
 
 -- the bytes of a word, by shifts
 pub bytes_shifted : (w : ℕ) →

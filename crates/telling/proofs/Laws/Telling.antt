@@ -3,21 +3,26 @@ use mathlib.Core.Path.{◌≡◌, refl, ◌∙◌, ap}
 use mathlib.Core.Logic.{◌⊎◌, inl, inr}
 use mathlib.Core.List.{List, [], ◌∷◌}
 use Prim.Native.Nat.{ℕ, ◌≤◌, ◌<◌}
-use borrow.Author.Tests.{eq-eqb, ne_eqb, lt-ltb, le-ltb}
-use Rattle.settings.proofs.Laws.Cases.{by_order, by_equal}
+use borrow.Author.Tests.{lt-ltb, le-ltb}
+use Rattle.std.specs.Prelude.{Option, Some, None, Result, Ok, Err}
+use Rattle.settings.proofs.Laws.Cases.{by_order}
+use Rattle.settings.specs.Refusal.{number}
+use Rattle.settings.specs.declared.refusal.Refusal.{Refusal}
 use Rattle.reach.specs.Survey.{surveyed_of}
 use Rattle.reach.specs.declared.survey.Surveyed.{Surveyed}
-use Rattle.reach.specs.declared.survey.Surveyed.TheVariants as surveyed
 use Rattle.lines.specs.Line.{refused_line, line_text}
 use Rattle.row.specs.Row.{pulses}
-use Rattle.steps.specs.Shown.{number_shown, offset_shown}
-use Rattle.steps.specs.Step.{step_of}
+use Rattle.steps.specs.Answer.{cause_due, number_due, offset_due, wall_then}
+use Rattle.steps.specs.Step.{stepped, step_of}
+use Rattle.steps.specs.Take.{refused_at}
+use Rattle.steps.proofs.Laws.Taken.{by_cause}
+use Rattle.steps.proofs.Laws.Answer.{step_goes, taken_goes, taken_gone}
 use Rattle.stages.specs.declared.Place.{Place}
 use Rattle.stages.specs.declared.Wall.{Wall}
 use Rattle.stages.specs.declared.Wall.TheVariants.{New, Start, Row, End, Over}
 use Rattle.search_lines.specs.Text.{faulty_word}
 use Rattle.told.specs.Telling.{Telling, says}
-use Rattle.telling.specs.Telling.{first_marked, survey_says, row_says, step_says, telling}
+use Rattle.telling.specs.Telling.{first_marked, survey_says, row_says, step_says, taken_says, telling}
 
 -- a row, by its lowest marked column
 module _ (asked : List ℕ) (p : Place) (after : Wall) (m : ℕ) (ms ts : List ℕ) where
@@ -31,26 +36,25 @@ module _ (asked : List ℕ) (p : Place) (after : Wall) (m : ℕ) (ms ts : List �
   unfolding row_says
   row_clean c e i = rw (← e, le-ltb c p.settings.width i)
 
--- a step, by its number
+-- a step, by the refusal of its part
 module _ (asked : List ℕ) (x : Wall) (m : ℕ) (ts bs : List ℕ) where
-  pub told_away : (number_shown (step_of x (pulses ts []) bs).shows ≡ 0 → ⊥) →
-      telling asked x m ts bs
-      ≡ says (step_of x (pulses ts []) bs).next m (refused_line (number_shown (step_of x (pulses ts []) bs).shows) (offset_shown (step_of x (pulses ts []) bs).shows))
-  unfolding telling
-  told_away k = rw (ne_eqb (number_shown (step_of x (pulses ts []) bs).shows) 0 k)
+  pub told_away : {why : Refusal} → cause_due x ts bs ≡ Some why →
+      telling asked x m ts bs ≡ says Over m (refused_line (number why) (offset_due x bs))
+  unfolding telling taken_says refused_at
+  told_away e = ap (taken_says asked x m ts bs) (taken_gone (pulses ts []) bs x e)
 
-  pub told_on : number_shown (step_of x (pulses ts []) bs).shows ≡ 0 → telling asked x m ts bs ≡ step_says asked x (step_of x (pulses ts []) bs).next m ts bs
-  unfolding telling
-  told_on e = rw (eq-eqb (number_shown (step_of x (pulses ts []) bs).shows) 0 e)
+  pub told_on : number_due x ts bs ≡ 0 → telling asked x m ts bs ≡ step_says asked x (wall_then x bs) m ts bs
+  unfolding telling taken_says
+  told_on e = ap (taken_says asked x m ts bs) (taken_goes (pulses ts []) bs x e)
 
 -- the wall that is left is the step's, or over
 module _ (asked : List ℕ) where
-  survey_wall : (p : Place) (after : Wall) (m : ℕ) (v : Surveyed) →
+  survey_wall : (p : Place) (after : Wall) (m : ℕ) (v : Result (Option Surveyed) Refusal) →
       ((survey_says asked p after m v).wall ≡ after) ⊎ ((survey_says asked p after m v).wall ≡ Over)
   unfolding survey_says says
-  survey_wall p after m (surveyed.Row b largest) = inl refl
-  survey_wall p after m surveyed.Outside = inr refl
-  survey_wall p after m (surveyed.Refused n) = inr refl
+  survey_wall p after m (Ok (Some v)) = inl refl
+  survey_wall p after m (Ok None) = inr refl
+  survey_wall p after m (Err why) = inr refl
 
   row_wall : (p : Place) (after : Wall) (m : ℕ) (ms ts : List ℕ) →
       ((row_says asked p after m ms ts).wall ≡ after) ⊎ ((row_says asked p after m ms ts).wall ≡ Over)
@@ -71,7 +75,8 @@ module _ (asked : List ℕ) where
 
   pub told_wall : (x : Wall) (m : ℕ) (ts bs : List ℕ) →
       ((telling asked x m ts bs).wall ≡ (step_of x (pulses ts []) bs).next) ⊎ ((telling asked x m ts bs).wall ≡ Over)
+  unfolding number_due stepped
   told_wall x m ts bs =
-      by_equal (number_shown (step_of x (pulses ts []) bs).shows) 0
-      (λ e. rw (told_on asked x m ts bs e) (step_wall x (step_of x (pulses ts []) bs).next m ts bs))
-      (λ k. inl (ap (λ (t : Telling). t.wall) (told_away asked x m ts bs k) ∙ (unfold says in refl)))
+      by_cause (cause_due x ts bs)
+      (λ e. rw (told_on asked x m ts bs e, step_goes (pulses ts []) bs x e) (step_wall x (wall_then x bs) m ts bs))
+      (λ why e. inr (ap (λ (t : Telling). t.wall) (told_away asked x m ts bs e) ∙ (unfold says in refl)))

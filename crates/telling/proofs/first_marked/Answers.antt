@@ -20,7 +20,7 @@ passed w c ms i =
     rw (more, add-one)
 
 pub loop-c-init : goal.loop-c-init
-loop-c-init c = (omega arith, ap (λ (n : ℕ). first_in n 0 c.args.marks.now) (less_none c.args.width))
+loop-c-init c = ap (λ (n : ℕ). first_in n 0 c.args.marks.now) (less_none c.args.width)
 
 pub marked-requires : goal.marked-requires
 unfolding mark_bytes
@@ -33,7 +33,7 @@ returns-then-marked c = let a = c.args in
     let k = c.loop-c.c in
     let ms = a.marks.now in
     let here : first_in (w - k) k ms ≡ k = rw (sym c.marked.ensures ∙ c.if-marked.true) at (passed w k ms c.loop-c-test.true) in
-    sym here ∙ c.loop-c.invariant.1
+    sym here ∙ c.loop-c.invariant
 
 pub loop-c-preserved : goal.loop-c-preserved
 loop-c-preserved c = let a = c.args in
@@ -41,9 +41,10 @@ loop-c-preserved c = let a = c.args in
     let k = c.loop-c.c in
     let ms = a.marks.now in
     let next : first_in (w - k) k ms ≡ first_in (w - (k + 1)) (k + 1) ms = rw (sym c.marked.ensures ∙ c.if-marked.false) at (passed w k ms c.loop-c-test.true) in
-    (omega arith, sym next ∙ c.loop-c.invariant.1)
+    sym next ∙ c.loop-c.invariant
 
 pub returns : goal.returns
 unfolding first_marked first_in
 returns c = let none : c.args.width - c.loop-c.c ≡ 0 = omega (arith, c.loop-c-test.false) in
-    rw none at c.loop-c.invariant.1
+    let end : c.loop-c.c ≡ c.args.width = omega (arith, c.loop-c-test.false, c.loop-c.auto) in
+    sym end ∙ rw none at c.loop-c.invariant

@@ -5,6 +5,8 @@ use mathlib.Core.List.{List}
 use Prim.Native.Nat.{ℕ, ◌≤◌, ◌<◌}
 use lib.ListN.{length, take}
 use native.Mathlib.Omega.{arith}
+use Rattle.std.specs.Prelude.{Option, Result}
+use Rattle.settings.specs.declared.refusal.Refusal.{Refusal}
 use Rattle.settings.proofs.Laws.Settings.{limits}
 use Rattle.reach.specs.Survey.{surveyed_of}
 use Rattle.reach.specs.declared.survey.Surveyed.{Surveyed}
@@ -36,10 +38,10 @@ module _ (p : Place) (ts : List ℕ) (fits : place_fits p (length ts) ≡ true) 
     within i = omega (arith, long)
 
     -- a row without faults, by its survey
-    clean : (asked : List ℕ) (after : Wall) (m : ℕ) {r v : Surveyed} → length ts ≤ k → r ≡ surveyed_of p.settings p.row m ts → r ≡ v →
+    clean : (asked : List ℕ) (after : Wall) (m : ℕ) {v : Result (Option Surveyed) Refusal} → length ts ≤ k → v ≡ surveyed_of p.settings p.row m ts →
         row_says asked p after m ms ts ≡ survey_says asked p after m v
-    clean asked after m i d f =
-        row_clean asked p after m ms ts k column (omega (arith, long)) ∙ ap (survey_says asked p after m) (sym d ∙ f)
+    clean asked after m i d =
+        row_clean asked p after m ms ts k column (omega (arith, long)) ∙ ap (survey_says asked p after m) (sym d)
 
 pub first_marked-column-requires : goal.first_marked-column-requires
 first_marked-column-requires c = let a = c.args in
@@ -51,28 +53,28 @@ returns-then-column-width c = let a = c.args in
     said Over a.largest
     (row_faulty _ a.place a.after a.largest a.marks.now a.row.now c.first_marked-column.result (column a.place a.row.now c.requires.0 a.marks.now e)
     (within a.place a.row.now c.requires.0 a.marks.now e c.if-column-width.true))
-    c.line-end.ensures.text
+    c.line.ensures.text
 
-pub returns-in-Row : goal.returns-in-Row
+pub returns-in-Ok-Some : goal.returns-in-Ok-Some
 unfolding survey_says
-returns-in-Row c = let a = c.args in
-    said a.after c.in-Row.largest
+returns-in-Ok-Some c = let a = c.args in
+    said a.after c.in-Ok-Some.surveyed.largest
     (clean a.place a.row.now c.requires.0 a.marks.now c.first_marked-column.ensures (take 16 a.asked.now) a.after a.largest c.if-column-width.false
-    c.survey.ensures c.in-Row.is)
-    c.row_lines-end.ensures
+    (rw c.in-Ok-Some.field-0-is at c.in-Ok-Some.ensures))
+    c.row_lines.ensures
 
-pub returns-in-Outside : goal.returns-in-Outside
+pub returns-in-Ok-None : goal.returns-in-Ok-None
 unfolding survey_says
-returns-in-Outside c = let a = c.args in
+returns-in-Ok-None c = let a = c.args in
     said Over a.largest
     (clean a.place a.row.now c.requires.0 a.marks.now c.first_marked-column.ensures (take 16 a.asked.now) a.after a.largest c.if-column-width.false
-    c.survey.ensures c.in-Outside.is)
+    (rw c.in-Ok-None.field-0-is at c.in-Ok-None.ensures))
     (wrote_none a.out.now a.at)
 
-pub returns-in-Refused : goal.returns-in-Refused
+pub returns-in-Err : goal.returns-in-Err
 unfolding survey_says
-returns-in-Refused c = let a = c.args in
+returns-in-Err c = let a = c.args in
     said Over a.largest
     (clean a.place a.row.now c.requires.0 a.marks.now c.first_marked-column.ensures (take 16 a.asked.now) a.after a.largest c.if-column-width.false
-    c.survey.ensures c.in-Refused.is)
+    c.in-Err.ensures)
     (wrote_none a.out.now a.at)

@@ -4,9 +4,9 @@ use mathlib.Core.Bool.{true, cond}
 use mathlib.Core.List.{List}
 use Prim.Native.Nat.{ℕ, ◌≤◌}
 use native.Mathlib.Omega.{arith}
-use borrow.Author.Tests.{eq-eqb, ne_eqb}
+use borrow.Author.Tests.{eq-eqb}
+use Rattle.std.specs.Prelude.{Result, Ok, Err}
 use Rattle.settings.specs.Settings.{settings_refusal}
-use Rattle.settings.proofs.Laws.Cases.{by_equal}
 use Rattle.settings.proofs.Laws.Settings.{limits}
 use Rattle.row.specs.Row.{Pulses}
 use Rattle.stages.specs.Fit.{passes, width_of, place_fits, wall_fits}
@@ -14,22 +14,13 @@ use Rattle.stages.specs.declared.Place.{Place}
 use Rattle.stages.specs.declared.Wall.{Wall}
 use Rattle.stages.specs.declared.Wall.TheVariants.{New, Start, Row, End, Over}
 use Rattle.stages.proofs.Laws.{fit_of}
-use Rattle.steps.specs.Answer.{number_due, row_then}
+use Rattle.steps.specs.Answer.{cause_due, number_due, wall_then, row_then}
 use Rattle.steps.specs.Step.{Stepped, stepped, away, step_of}
-use Rattle.steps.specs.Take.{taken, taken_of, next_row}
-use Rattle.steps.specs.declared.Taken.{Taken}
+use Rattle.steps.specs.Take.{taken_of, next_row}
+use Rattle.steps.specs.declared.RefusedAt.{RefusedAt}
+use Rattle.steps.proofs.Laws.Taken.{by_cause}
 use Rattle.steps.proofs.Laws.Answer.{step_goes, step_away, taken_goes, taken_gone, row_goes_on}
-use Rattle.wall.specs.Operation.{accepted_row, replaced}
-
--- by the number
-module _ (x : Wall) (k : ℕ) (next row : Pulses) where
-  pub kept : (k ≡ 0 → ⊥) → replaced x k next row ≡ row
-  unfolding replaced
-  kept z = rw (ne_eqb k 0 z)
-
-  pub by_wall : {y : Wall} → k ≡ 0 → x ≡ y → replaced x k next row ≡ accepted_row y next row
-  unfolding replaced
-  by_wall z w = rw (eq-eqb k 0 z, w)
+use Rattle.wall.specs.Operation.{accepted_row}
 
 -- room of the wall's width is as long as a row that fits
 module _ (p : Place) (n m : ℕ) where
@@ -58,13 +49,28 @@ module _ (row : Pulses) (bs : List ℕ) (held : Pulses) where
   accepted (End p) = refl
   accepted Over = refl
 
-  pub replaced_right : (x : Wall) (t : Taken) → t ≡ taken_of (step_of x row bs) → replaced x t.number (next_row x row.times bs held) row ≡ (step_of x row bs).row
-  unfolding taken stepped away
-  replaced_right x t is =
-      by_equal (number_due x row.times bs) 0
-      (λ e. by_wall x t.number _ row (ap (λ (u : Taken). u.number) (is ∙ taken_goes row bs x e)) refl
-      ∙ ap (λ (r : Pulses). accepted_row x r row) (row_goes_on row.times bs held x e)
-      ∙ accepted x
-      ∙ sym (ap (λ (o : Stepped). o.row) (step_goes row bs x e)))
-      (λ k. kept x t.number _ row (λ z. k (sym (ap (λ (u : Taken). u.number) (is ∙ taken_gone row bs x k)) ∙ z))
-      ∙ sym (ap (λ (o : Stepped). o.row) (step_away row bs x k)))
+  never : {r : RefusedAt} {y : Wall} {C : Type 0} → ◌≡◌ {A = Result Wall RefusedAt} (Err r) (Ok y) → C
+  never e = cc e
+
+  accepted_due : (x : Wall) {y : Wall} → taken_of (step_of x row bs) ≡ Ok y → number_due x row.times bs ≡ 0
+  unfolding number_due
+  accepted_due x is = by_cause (cause_due x row.times bs) (λ e. e) (λ why e. never (sym (taken_gone row bs x e) ∙ is))
+
+  pub accepted_right : (x : Wall) {y : Wall} → taken_of (step_of x row bs) ≡ Ok y →
+      (accepted_row x (next_row x row.times bs held) row ≡ (step_of x row bs).row) × (y ≡ (step_of x row bs).next)
+  unfolding stepped
+  accepted_right x {y} is =
+      let e = accepted_due x is in
+      let then : Ok y ≡ Ok (wall_then x bs) = sym is ∙ taken_goes row bs x e in
+      let same : y ≡ wall_then x bs = cc in (
+        ap (λ (r : Pulses). accepted_row x r row) (row_goes_on row.times bs held x e) ∙ accepted x ∙ sym (ap (λ (o : Stepped). o.row) (step_goes row bs x e)),
+        same ∙ sym (ap (λ (o : Stepped). o.next) (step_goes row bs x e)),
+      )
+
+  -- a step that is turned away leaves the row, and the file is over
+  pub refused_right : (x : Wall) {r : RefusedAt} → taken_of (step_of x row bs) ≡ Err r → (row ≡ (step_of x row bs).row) × (Over ≡ (step_of x row bs).next)
+  unfolding stepped away number_due
+  refused_right x is =
+      by_cause (cause_due x row.times bs)
+      (λ e. never (sym is ∙ taken_goes row bs x e))
+      (λ why e. (sym (ap (λ (o : Stepped). o.row) (step_away row bs x e)), sym (ap (λ (o : Stepped). o.next) (step_away row bs x e))))

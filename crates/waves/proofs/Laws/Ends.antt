@@ -8,7 +8,7 @@ use native.Mathlib.Omega.{arith}
 use lib.IntN.{ℤ, pos, neg_ℤ}
 use lib.Signed.{mag, ◌≤ℤ◌}
 use borrow.Author.Tests.{ne_eqb}
-use Rattle.settings.proofs.Laws.Refusal.{inside, within, below, above}
+use Rattle.settings.proofs.Laws.Refusal.{inside, within, below}
 use Rattle.settings.proofs.Laws.Cases.{by_order}
 use Rattle.rule.specs.Signed.{larger, smaller}
 use Rattle.rule.proofs.Laws.Signed.{minus, sub_same, sub_pos, sub_neg, sub_≤, sub_larger, sub_smaller}
@@ -29,10 +29,6 @@ is_gap x i k = within 1 most x i k
 pub open_word : no_gap 0 ≡ true
 unfolding no_gap
 open_word = below 1 most 0 (omega arith)
-
-pub over_word : (x : ℕ) → suc most ≤ x → no_gap x ≡ true
-unfolding no_gap
-over_word x i = above 1 most x (omega arith) (omega arith)
 
 abbrev ends : (largest smallest : ℕ) → Ends
 ends l s = record { largest = l; smallest = s }

@@ -4,29 +4,32 @@ use mathlib.Core.Bool.{Bool, true, false}
 use Prim.Native.Nat.{ℕ, ◌≤◌}
 use native.Mathlib.Omega.{arith}
 use borrow.Author.Tests.{ltb-false}
+use Rattle.std.specs.Prelude.{Result, Ok, Err}
+use Rattle.settings.specs.declared.refusal.Refusal.{Refusal}
+use Rattle.settings.specs.declared.refusal.Refusal.TheVariants.{LateSide}
 use Rattle.seam.specs.Seam.{latest, halves, late, joined, seam_of}
 use Rattle.seam.specs.declared.Halves.{Halves}
 use Rattle.seam.specs.declared.Seam.{Seam}
-use Rattle.seam.specs.declared.Seam.TheVariants.{Closed, Refused}
+use Rattle.seam.specs.declared.Seam.TheVariants.{Closed}
 use Rattle.seam.proofs.Laws.{refused_left, refused_right, accepted}
 
 -- a seam that is turned away is not closed
-not_closed : {C : Type 0} (s : Seam) (h : Halves) → s ≡ Refused 31 → s ≡ Closed h → C
-not_closed s h p q = let z : ◌≡◌ {A = ℕ} 0 1 = cc in let never : ⊥ = omega arith in absurd never
+not_closed : {C : Type 0} (s : Result Seam Refusal) (h : Halves) → s ≡ Err LateSide → s ≡ Ok (Closed h) → C
+not_closed s h p q = let never : ⊥ = cc in absurd never
 
 not_late : (t : ℕ) → late t false ≡ false → t ≤ latest
 unfolding late
 not_late t e = ltb-false latest t e
 
 -- a seam of two tiles is closed where both are correct, and has their halves
-both_correct : (lf rf : Bool) (g h : Halves) → joined lf rf g ≡ Closed h → (lf ≡ false) × (rf ≡ false) × (h ≡ g)
+both_correct : (lf rf : Bool) (g h : Halves) → ◌≡◌ {A = Result Seam Refusal} (Ok (joined lf rf g)) (Ok (Closed h)) → (lf ≡ false) × (rf ≡ false) × (h ≡ g)
 unfolding joined
 both_correct false false g h e = (refl, refl, cc)
-both_correct true false g h e = let z : ◌≡◌ {A = ℕ} 0 1 = cc in let never : ⊥ = omega arith in absurd never
-both_correct false true g h e = let z : ◌≡◌ {A = ℕ} 0 1 = cc in let never : ⊥ = omega arith in absurd never
-both_correct true true g h e = let z : ◌≡◌ {A = ℕ} 0 1 = cc in let never : ⊥ = omega arith in absurd never
+both_correct true false g h e = let never : ⊥ = cc in absurd never
+both_correct false true g h e = let never : ⊥ = cc in absurd never
+both_correct true true g h e = let never : ⊥ = cc in absurd never
 
-module _ (l : ℕ) (lf : Bool) (r : ℕ) (rf : Bool) (h : Halves) (e : seam_of l lf r rf ≡ Closed h) where
+module _ (l : ℕ) (lf : Bool) (r : ℕ) (rf : Bool) (h : Halves) (e : seam_of l lf r rf ≡ Ok (Closed h)) where
   closed_as : (l ≤ latest) × (r ≤ latest) × (h ≡ halves l r)
   closed_as = go (late l lf) (late r rf) refl refl
     where

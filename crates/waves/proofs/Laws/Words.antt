@@ -8,6 +8,8 @@ use native.Mathlib.Omega.{arith}
 use lib.IntN.{pos, ◌-ℤ◌}
 use lib.ListN.{length, drop, replicate, length-append, length-map, length-replicate}
 use lib.Seq.{drop-append-le, drop-append-add}
+use Rattle.std.specs.Prelude.{Result, Ok, Err}
+use Rattle.settings.specs.declared.refusal.Refusal.{Refusal}
 use Rattle.settings.proofs.Laws.Cases.{by_order}
 use Rattle.rule.proofs.Laws.Signed.{minus, sub_same}
 use Rattle.seam.specs.Seam.{latest, seam_of}
@@ -26,12 +28,12 @@ closed_gap l r i k =
     rw (is_gap (level + r - l) (omega arith) (omega arith), minus (level + r - l) level, minus r l)
     (ap some (sub_same (level + r - l) level r l (omega arith)))
 
-seam_gap : (l r : ℕ) (s : Seam) → ((h : _) → s ≡ seam.Closed h → (l ≤ latest) × (r ≤ latest)) →
+seam_gap : (l r : ℕ) (s : Result Seam Refusal) → ((h : _) → s ≡ Ok (seam.Closed h) → (l ≤ latest) × (r ≤ latest)) →
     gap_at (seam_word s l r) ≡ where_closed s (pos r -ℤ pos l)
 unfolding seam_word where_closed
-seam_gap l r (seam.Closed h) i = let k = i h refl in closed_gap l r k.0 k.1
-seam_gap l r (seam.Open o) i = unfold gap_at in rw open_word
-seam_gap l r (seam.Refused n) i = unfold gap_at in rw open_word
+seam_gap l r (Ok (seam.Closed h)) i = let k = i h refl in closed_gap l r k.0 k.1
+seam_gap l r (Ok (seam.Open o)) i = unfold gap_at in rw open_word
+seam_gap l r (Err why) i = unfold gap_at in rw open_word
 
 word_gap : (w : Wave) → gap_at (word w) ≡ gap_of w
 unfolding word gap_of answer

@@ -7,15 +7,18 @@ use mathlib.Core.Option.{none, some}
 use Prim.Native.Nat.{ℕ, zero, suc, ◌+◌, ◌≤◌, ◌<◌}
 use native.Mathlib.Omega.{arith}
 use lib.ListN.{get_or}
+use Rattle.std.specs.Prelude.{Option, Some, None, Result, Ok, Err}
+use Rattle.settings.specs.Refusal.{number_in}
+use Rattle.settings.specs.declared.refusal.Refusal.{Refusal}
+use Rattle.settings.specs.declared.refusal.Refusal.TheVariants.{LateSide}
 use Rattle.settings.proofs.Laws.Cases.{by_order}
 use Rattle.columns.specs.Marks.{marked}
 use Rattle.seam.specs.Seam.{latest, joined, seam_of}
 use Rattle.seam.proofs.Laws.{within_late, over_late, faulty_late, refused_left, refused_right, accepted}
 use Rattle.places.specs.Seams.{seam_left, seam_right}
-use Rattle.wide.specs.Wide.{half_ticks, if_wide, seam_first, or_then, first_from, row_first, number_of, SeamWide, wide_of}
+use Rattle.wide.specs.Wide.{half_ticks, wide_at, if_wide, seam_first, or_then, first_from, row_first, SeamWide, wide_of}
 use Rattle.wide.specs.Promises.{ClosedAt, InTime, Narrow, Passed, WideFound, LateFound}
-use Rattle.wide.specs.declared.First.{First}
-use Rattle.wide.specs.declared.First.TheVariants.{Wide, None, Refused}
+use Rattle.wide.specs.declared.Wide.{Wide}
 use Rattle.wide.proofs.Laws.Seam.{half_ticks_is, not_over, is_over}
 
 never : ◌≡◌ {A = ℕ} 0 1 → ⊥
@@ -26,14 +29,14 @@ module _ (n a b l r : ℕ) (lf rf : Bool) where
   abbrev Early : Type 0
   Early = (lf ≡ false → l ≤ latest) × (rf ≡ false → r ≤ latest)
 
-  data Sort : First → Type 0 where
-    passes : Early → ((lf ≡ false) × (rf ≡ false) → (r ≤ l + n) × (l ≤ r + n)) → Sort None
-    is_wide : {g : ℕ} → (lf ≡ false) × (rf ≡ false) → Early → (g + l ≡ r) ⊎ (g + r ≡ l) → n < g → Sort (Wide a b g)
-    is_late : (Early → ⊥) → Sort (Refused 31)
+  data Sort : Result (Option Wide) Refusal → Type 0 where
+    passes : Early → ((lf ≡ false) × (rf ≡ false) → (r ≤ l + n) × (l ≤ r + n)) → Sort (Ok None)
+    is_wide : {g : ℕ} → (lf ≡ false) × (rf ≡ false) → Early → (g + l ≡ r) ⊎ (g + r ≡ l) → n < g → Sort (Ok (Some (wide_at a b g)))
+    is_late : (Early → ⊥) → Sort (Err LateSide)
 
 -- by its marks
 module _ (n a b l r : ℕ) where
-  abbrev here : (lf rf : Bool) → First
+  abbrev here : (lf rf : Bool) → Result (Option Wide) Refusal
   here lf rf = if_wide n a b (half_ticks l r) (seam_of l lf r rf)
 
   gap : (half_ticks l r + l ≡ r) ⊎ (half_ticks l r + r ≡ l)
@@ -63,21 +66,21 @@ module _ (n a b l r : ℕ) where
 
 -- the seams from a place on, where those before it are passed
 module _ (n w : ℕ) (ts ms : List ℕ) where
-  pub record From (x : First) : Type 0 where
+  pub record From (x : Result (Option Wide) Refusal) : Type 0 where
     pub wide : (s : SeamWide) → wide_of x ≡ some s → WideFound w ts ms n s
-    pub none_wide : wide_of x ≡ none → number_of x ≡ 0 → Passed w ts ms n (suc w)
-    pub late : (number_of x ≡ 0 → ⊥) → (number_of x ≡ 31) × LateFound w ts ms n
+    pub none_wide : wide_of x ≡ none → number_in x ≡ 0 → Passed w ts ms n (suc w)
+    pub late : (number_in x ≡ 0 → ⊥) → (number_in x ≡ 31) × LateFound w ts ms n
 
   -- a wide seam by its three numbers
   abbrev wide_as : (a b g : ℕ) → SeamWide
   wide_as a b g = record { left = a; right = b; half_gap = g }
 
   module _ (i : ℕ) (place : i ≤ w) (before : Passed w ts ms n i) where
-    abbrev at : First → Type 0
+    abbrev at : Result (Option Wide) Refusal → Type 0
     at = Sort n (seam_left w i) (seam_right w i) (get_or ts (seam_left w i) 0) (get_or ts (seam_right w i) 0) (marked ms (seam_left w i)) (marked ms (seam_right w i))
 
-    by_sort : {x : First} (y : First) → at x → (Passed w ts ms n (suc i) → From y) → From (or_then x y)
-    unfolding or_then wide_of number_of Passed InTime Narrow ClosedAt
+    by_sort : {x : Result (Option Wide) Refusal} (y : Result (Option Wide) Refusal) → at x → (Passed w ts ms n (suc i) → From y) → From (or_then x y)
+    unfolding or_then wide_at wide_of Passed InTime Narrow ClosedAt
     by_sort y (passes e k) on = on (λ j l. by_order i j (λ m. let same : j ≡ i = omega (arith, l, m) in rw same (e, k)) (λ m. before j m))
     by_sort y (is_wide {g} c e h o) on =
         record {
@@ -95,7 +98,7 @@ module _ (n w : ℕ) (ts ms : List ℕ) where
         }
 
   from : (m i : ℕ) → m + i ≡ suc w → Passed w ts ms n i → From (first_from n w ts ms m i)
-  unfolding first_from wide_of number_of seam_first
+  unfolding first_from wide_of seam_first
   from zero i e before =
       record {
         wide = λ s q. let f : ◌≡◌ {A = ℕ} 0 1 = cc in absurd (never f);

@@ -2,35 +2,24 @@
 use mathlib.Core.Path.{◌≡◌, refl, sym, ◌∙◌, ap}
 use mathlib.Core.Bool.{Bool, true, false, cond}
 use mathlib.Core.List.{List}
+use Rattle.std.specs.Prelude.{Result, Ok, Err}
 use Prim.Native.Nat.{ℕ, suc, ◌+◌, ◌-◌, ◌≤◌, ◌<◌}
-use native.Mathlib.Numerals.{add-one}
-use native.Mathlib.Nat.{add_comm}
 use native.Mathlib.Omega.{arith}
 use borrow.Author.Tests.{eqb-false, ltb-true}
 use lib.Dec.{eqb}
-use lib.ListN.{length, take, drop, get_or, set, length-drop}
-use lib.Seq.{take-suc, take-suc-set, drop-set-lt, get_or-drop, drop-drop, take-take, take-add, drop_at, length-take-le}
-use Rattle.window.specs.Window.{InBuffer, bytes_in, lacking, Placed, ReadOn, read_on, filled_up}
-use Rattle.window.specs.declared.Reading.{Reading}
-use Rattle.window.specs.declared.Reading.TheVariants.{Ready, Failed}
+use lib.ListN.{length, take, drop, length-drop}
+use lib.Seq.{take-take, take-add, take_at, drop_at, length-take-le}
+use Rattle.std.specs.List.{copy_within}
+use Rattle.window.specs.Window.{InBuffer, bytes_in, lacking, Placed, ReadOn, FilledUp, filled_up}
 use Rattle.window.specs.declared.Window.{Window}
 
--- one byte more copied to the front
-module _ (xs ys : List ℕ) (start i : ℕ) (inside : start + i < length xs) (long : length ys ≡ length xs)
-    (front : take i ys ≡ take i (drop start xs)) (rest : drop i ys ≡ drop i xs) where
-  value : get_or ys (start + i) 0 ≡ get_or (drop start xs) i 0
-  value =
-      ap (λ (k : ℕ). get_or ys k 0) (add_comm start i) ∙ sym (get_or-drop i ys start 0) ∙ ap (λ (l : List ℕ). get_or l start 0) rest
-      ∙ get_or-drop i xs start 0 ∙ ap (λ (k : ℕ). get_or xs k 0) (add_comm i start) ∙ sym (get_or-drop start xs i 0)
-
-  pub front_more : take (i + 1) (set ys i (get_or ys (start + i) 0)) ≡ take (i + 1) (drop start xs)
-  front_more =
-      let less : i < length (drop start xs) = simp length-drop (omega arith) in
-      rw (add-one i, take-suc-set ys i (get_or ys (start + i) 0) (omega arith), take-suc (drop start xs) i 0 less, front, value)
-
-  pub rest_more : drop (i + 1) (set ys i (get_or ys (start + i) 0)) ≡ drop (i + 1) xs
-  rest_more =
-      drop-set-lt (i + 1) ys i _ (omega arith) ∙ sym (drop-drop 1 i ys) ∙ ap (drop 1) rest ∙ drop-drop 1 i xs
+-- a window's bytes, copied to the front
+pub at_front : (w : Window) (xs : List ℕ) {ys : List ℕ} → InBuffer w (length xs) → ys ≡ copy_within xs w.start w.end 0 →
+    take (w.end - w.start) ys ≡ take (w.end - w.start) (drop w.start xs)
+at_front w xs i e =
+    let n = w.end - w.start in
+    let long : length (take n (drop w.start xs)) ≡ n = length-take-le n _ (simp length-drop (omega (arith, i.ordered, i.inside))) in
+    rw e (take_at (take n (drop w.start xs)) _ n long)
 
 -- n bytes read behind a window
 pub read_behind : (w : Window) (before after : List ℕ) (n : ℕ) → w.start ≤ w.end → w.end + n ≤ length after →
@@ -44,11 +33,6 @@ read_behind w before after n i j e =
       grown = omega arith;
       more = λ f. let some = eqb-false n 0 f in omega arith;
     }
-
-pub ready_on : (w : Window) (before : List ℕ) (f : Reading) (r : Window) (after : List ℕ) → f ≡ Ready r → read_on w before f after →
-    ReadOn w before r after
-unfolding read_on
-ready_on w before f r after e on = rw e at on
 
 -- how many bytes are still to be read for the due part, and one to see the input's end
 unfoldable pub to_read : (due : ℕ) → Window → ℕ
@@ -117,14 +101,12 @@ moved w due before after i j long e =
     }
 
 -- a window in which nothing is lacking
-pub filled_already : (w : Window) (due : ℕ) (xs : List ℕ) → InBuffer w (length xs) → lacking w due ≡ false → filled_up w due xs (Ready w) xs
-unfolding filled_up
+pub filled_already : (w : Window) (due : ℕ) (xs : List ℕ) → InBuffer w (length xs) → lacking w due ≡ false → FilledUp w due xs w xs
 filled_already w due xs i e = record { within = i; first = stand_first w w xs xs i i refl refl (omega arith) refl; enough = e }
 
 -- moved, and then filled
-pub filled_moved : (w p : Window) (due : ℕ) (before mid : List ℕ) (f : Reading) (after : List ℕ) → Placed w due before p mid →
+pub filled_moved : {E : Type 0} (w p : Window) (due : ℕ) (before mid : List ℕ) (f : Result Window E) (after : List ℕ) → Placed w due before p mid →
     filled_up p due mid f after → filled_up w due before f after
-unfolding filled_up
-filled_moved w p due before mid (Ready r) after put up =
+filled_moved w p due before mid (Ok r) after put up =
     record { within = up.within; first = rw put.size at up.first ∙ put.same; enough = up.enough }
-filled_moved w p due before mid Failed after put up = tt
+filled_moved w p due before mid (Err e) after put up = tt

@@ -3,8 +3,7 @@ use mathlib.Core.Bool.{false}
 use mathlib.Core.Path.{◌≡◌, sym, ◌∙◌}
 use Prim.Native.Nat.{◌-◌, ◌<◌}
 use native.Mathlib.Omega.{arith}
-use Rattle.window.specs.Window.{filled_up}
-use Rattle.window.proofs.Laws.Window.{ready_on, lacking_some, reads_less, same_front, stand_first}
+use Rattle.window.proofs.Laws.Window.{lacking_some, reads_less, same_front, stand_first}
 use Rattle.window.proofs.read_part.Goals as goal
 
 pub take_in-requires : goal.take_in-requires
@@ -17,22 +16,17 @@ take_in-requires g c = let at = c.loop-from in
 pub loop-from-smaller : goal.loop-from-smaller
 loop-from-smaller g c = let at = c.loop-from in
     let lacks = sym c.lacks.ensures ∙ c.loop-from-test.true in
-    let next = ready_on _ _ _ _ _ c.in-Ready.is c.take_in.ensures in
+    let next = c.in_ok-window.ensures in
     reads_less at.window _ _ _ _ at.invariant.0.ordered lacks next
 
 pub loop-from-preserved : goal.loop-from-preserved
 loop-from-preserved g c = let args = c.args in
     let at = c.loop-from in
-    let next = ready_on _ _ _ _ _ c.in-Ready.is c.take_in.ensures in
+    let next = c.in_ok-window.ensures in
     let still = same_front args.window.end at.window.end _ _ at.invariant.3 next.kept in
     (next.within, omega arith, next.start ∙ at.invariant.2, omega (arith, next.grown), still ∙ at.invariant.4)
 
-pub returns-in-Failed : goal.returns-in-Failed
-unfolding filled_up
-returns-in-Failed g c = tt
-
 pub returns : goal.returns
-unfolding filled_up
 returns g c = let args = c.args in
     let at = c.loop-from in
     record {

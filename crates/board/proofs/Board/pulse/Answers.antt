@@ -1,26 +1,25 @@
 -- `pulse` meets its contract. Assumes nothing.
-use mathlib.Core.Path.{◌≡◌, sym, ◌∙◌}
-use mathlib.Core.Bool.{true}
+use Rattle.std.proofs.Common.{◌≡◌, true, sym, ◌∙◌}
 use Rattle.board.specs.State.{runs, hears}
 use Rattle.board.proofs.Laws.Pulse.{ignored, turned_away, taken, placed}
-use Rattle.board.proofs.Board.pulse.Goals.{Then-runs}
+use Rattle.board.proofs.Board.pulse.Goals.{Else-not-runs}
 use Rattle.board.proofs.Board.pulse.Goals as goal
 
-running : (c : Then-runs) → runs c.args.self ≡ true
-running c = sym c.runs.ensures ∙ c.if-runs.true
+running : (c : Else-not-runs) → runs c.args.self ≡ true
+running c = sym c.runs.ensures ∙ c.if-not-runs.false
 
-pub returns-then-senders-sender : goal.returns-then-senders-sender
-returns-then-senders-sender c = sym (turned_away _ _ (running (goal.at.returns-then-senders-sender c).Then-runs) c.if-senders-sender.true)
+pub returns-then-not-runs : goal.returns-then-not-runs
+returns-then-not-runs c = sym (ignored _ _ (sym c.runs.ensures ∙ c.if-not-runs.true))
+
+pub returns-then-self-sender : goal.returns-then-self-sender
+returns-then-self-sender c = sym (turned_away _ _ (running (goal.at.returns-then-self-sender c).Else-not-runs) c.if-self-sender.true)
 
 pub heard-requires : goal.heard-requires
-heard-requires c = placed _ _ (running (goal.at.heard-requires c).Then-runs) c.if-senders-sender.false
+heard-requires c = placed _ _ (running (goal.at.heard-requires c).Else-not-runs) c.if-self-sender.false
 
 pub hear-requires : goal.hear-requires
-hear-requires c = placed _ _ (running (goal.at.hear-requires c).Then-runs) c.if-senders-sender.false
-
-pub returns-then-runs : goal.returns-then-runs
-unfolding hears
-returns-then-runs c = rw (c.heard.ensures, c.hear.ensures) (sym (taken _ _ (running (goal.at.returns-then-runs c).Then-runs) c.if-senders-sender.false))
+hear-requires c = placed _ _ (running (goal.at.hear-requires c).Else-not-runs) c.if-self-sender.false
 
 pub returns : goal.returns
-returns c = sym (ignored _ _ (sym c.runs.ensures ∙ c.if-runs.false))
+unfolding hears
+returns c = rw (c.heard.ensures, c.hear.ensures) (sym (taken _ _ (running (goal.at.returns c).Else-not-runs) c.if-self-sender.false))

@@ -1,17 +1,16 @@
 -- `start` meets its contract. Assumes nothing.
-use mathlib.Core.Path.{sym, ◌∙◌}
-use borrow.Author.Tests.{eq-eqb, ne_eqb}
+use Rattle.std.proofs.Common.{sym}
+use Rattle.settings.proofs.Laws.Refusal.{none_of, passed, refused_with}
 use Rattle.board.specs.Stand.{stand}
-use Rattle.board.specs.State.{start_refusal, fresh, started}
+use Rattle.board.specs.State.{start_cause, fresh, first_stage, started}
+use Rattle.board.proofs.Board.start.Goals.{in-Ok, in-Err}
 use Rattle.board.proofs.Board.start.Goals as goal
 
-pub returns-then-number-eq0 : goal.returns-then-number-eq0
-unfolding started fresh stand
-returns-then-number-eq0 c = let a = c.args in
-    let e = sym c.start_refusal-number.ensures ∙ c.if-number-eq0.true in
-    rw (eq-eqb (start_refusal a.settings a.count a.reading) 0 e, c.if-number-eq0.true, c.unheard_of-senders.ensures)
-
 pub returns : goal.returns
-unfolding started fresh stand
+unfolding started fresh stand first_stage
 returns c = let a = c.args in
-    rw (c.start_refusal-number.ensures, c.unheard_of-senders.ensures, ne_eqb (start_refusal a.settings a.count a.reading) 0 (λ z. c.if-number-eq0.false (c.start_refusal-number.ensures ∙ z)))
+    let cause = start_cause a.settings a.count a.reading in
+    elim c.match-check_start.branch [
+      | in-Ok w ↦ rw (c.unheard_of.ensures, w.refusal-is, none_of cause (passed cause _ (sym w.in-Ok.ensures)))
+      | in-Err w ↦ rw (c.unheard_of.ensures, w.refusal-is, refused_with cause _ (sym w.in-Err.ensures))
+    ]

@@ -3,7 +3,7 @@ use mathlib.Core.Path.{sym, ◌∙◌, ap}
 use Prim.Native.Nat.{ℕ, ◌+◌, ◌<◌}
 use native.Mathlib.Omega.{arith}
 use Rattle.columns.proofs.Laws.Window.{sender_in, links_in}
-use Rattle.places.specs.declared.links.Link.TheVariants.{At}
+use Rattle.std.specs.Prelude.{Some}
 use Rattle.places.proofs.Laws.Links.{at_first, at_second, at_third, at_fourth, none_of_three, none_of_four}
 use Rattle.places.proofs.links.heard.Goals.{After-first_link-place}
 use Rattle.places.proofs.links.heard.Goals as goal
@@ -16,7 +16,7 @@ small c = (
 )
 
 pub returns-then-sender-first : goal.returns-then-sender-first
-returns-then-sender-first c = ap At c.first_link-place.ensures ∙ sym (at_first c.args.width c.args.c c.args.sender c.requires.0 c.requires.1 (c.if-sender-first.true ∙ c.first_sender-first.ensures))
+returns-then-sender-first c = ap Some c.first_link-place.ensures ∙ sym (at_first c.args.width c.args.c c.args.sender c.requires.0 c.requires.1 (c.if-sender-first.true ∙ c.first_sender-first.ensures))
 
 pub overflow_add-first : goal.overflow_add-first
 overflow_add-first c = omega (arith, (small (goal.at.overflow_add-first c).After-first_link-place).0)
@@ -25,7 +25,7 @@ pub overflow_add-result : goal.overflow_add-result
 overflow_add-result c = omega (arith, (small (goal.at.overflow_add-result c).After-first_link-place).1)
 
 pub returns-then-sender-first-2 : goal.returns-then-sender-first-2
-returns-then-sender-first-2 c = ap (λ (n : ℕ). At (n + 1)) c.first_link-place.ensures
+returns-then-sender-first-2 c = ap (λ (n : ℕ). Some (n + 1)) c.first_link-place.ensures
     ∙ sym (at_second c.args.width c.args.c c.args.sender c.requires.0 c.requires.1 (c.if-sender-first-2.true ∙ ap (λ (n : ℕ). n + 1) c.first_sender-first.ensures))
 
 pub overflow_add-first-2 : goal.overflow_add-first-2
@@ -35,7 +35,7 @@ pub overflow_add-result-then-sender-first-3 : goal.overflow_add-result-then-send
 overflow_add-result-then-sender-first-3 c = omega (arith, (small (goal.at.overflow_add-result-then-sender-first-3 c).After-first_link-place).1)
 
 pub returns-then-sender-first-3 : goal.returns-then-sender-first-3
-returns-then-sender-first-3 c = ap (λ (n : ℕ). At (n + 2)) c.first_link-place.ensures
+returns-then-sender-first-3 c = ap (λ (n : ℕ). Some (n + 2)) c.first_link-place.ensures
     ∙ sym (at_third c.args.width c.args.c c.args.sender c.requires.0 c.requires.1 (c.if-sender-first-3.true ∙ ap (λ (n : ℕ). n + 2) c.first_sender-first.ensures))
 
 pub overflow_add-first-then-four_senders : goal.overflow_add-first-then-four_senders
@@ -45,7 +45,7 @@ pub overflow_add-result-then-sender-first-4 : goal.overflow_add-result-then-send
 overflow_add-result-then-sender-first-4 c = omega (arith, (small (goal.at.overflow_add-result-then-sender-first-4 c).After-first_link-place).1)
 
 pub returns-then-sender-first-4 : goal.returns-then-sender-first-4
-returns-then-sender-first-4 c = ap (λ (n : ℕ). At (n + 3)) c.first_link-place.ensures
+returns-then-sender-first-4 c = ap (λ (n : ℕ). Some (n + 3)) c.first_link-place.ensures
     ∙ sym (at_fourth c.args.width c.args.c c.args.sender c.requires.0 c.requires.1
     (sym c.four_senders.ensures ∙ c.if-four_senders.true) (c.if-sender-first-4.true ∙ ap (λ (n : ℕ). n + 3) c.first_sender-first.ensures))
 

@@ -3,7 +3,7 @@ use Prim.Native.Nat.{ℕ, ◌/◌, ◌<◌}
 use lib.ListN.{length}
 use native.Mathlib.Omega.{arith}
 use Rattle.columns.specs.Marks.{mark_bytes}
-use Rattle.places.specs.Seams.{between}
+use Rattle.places.specs.Seams.{row_seam, between}
 use Rattle.places.proofs.seams.between.Goals.{Start}
 use Rattle.places.proofs.seams.between.Goals as goal
 
@@ -18,5 +18,5 @@ pub marked-right_faulty-requires : goal.marked-right_faulty-requires
 marked-right_faulty-requires c = in_marks (goal.at.marked-right_faulty-requires c).Start c.requires.2
 
 pub returns : goal.returns
-unfolding between
+unfolding row_seam between
 returns c = rw (c.join.ensures, c.marked-left_faulty.ensures, c.marked-right_faulty.ensures)

@@ -1,33 +1,40 @@
 -- `columns_of` meets its contract. Assumes nothing.
-use mathlib.Core.Path.{◌≡◌, sym, ◌∙◌}
-use borrow.Author.Tests.{eq-eqb, ne_eqb, lt-ltb, le-ltb}
-use Rattle.settings.specs.Settings.{settings_refusal}
+use mathlib.Core.Path.{◌≡◌, sym}
+use Prim.Native.Nat.{◌≤◌}
+use borrow.Author.Tests.{lt-ltb, le-ltb}
+use Rattle.std.specs.Prelude.{None}
+use Rattle.settings.specs.Refusal.{answer}
+use Rattle.settings.specs.Settings.{settings_cause, settings_refusal}
+use Rattle.settings.proofs.Laws.Refusal.{none_of, passed, handed_on}
 use Rattle.settings.proofs.Laws.Settings.{limits}
-use Rattle.places.specs.Seams.{columns_of}
-use Rattle.places.proofs.seams.columns_of.Goals.{Else-number-ne0}
+use Rattle.places.specs.Seams.{columns, columns_of}
+use Rattle.places.proofs.seams.columns_of.Goals.{In_ok-check}
 use Rattle.places.proofs.seams.columns_of.Goals as goal
 
-passed : (c : Else-number-ne0) → settings_refusal c.args.settings ≡ 0
-passed c = sym c.refusal-number.ensures ∙ c.if-number-ne0.false
+-- the settings are accepted
+accepted : (c : In_ok-check) → settings_cause c.args.settings ≡ None
+accepted c = none_of _ (passed _ tt (sym c.in_ok-check.ensures))
 
-pub returns-then-number-ne0 : goal.returns-then-number-ne0
+wide : (c : In_ok-check) → let a = c.args in (6 ≤ a.settings.width) × (a.settings.width ≤ 256)
+unfolding settings_refusal
+wide c = (limits c.args.settings (passed _ tt (sym c.in_ok-check.ensures))).width
+
+pub returns-in_err-check : goal.returns-in_err-check
 unfolding columns_of
-returns-then-number-ne0 c = rw (← c.refusal-number.ensures, ne_eqb _ _ c.if-number-ne0.true)
+returns-in_err-check c = handed_on _ _ (tt {0}) _ c.from_residual.ensures.1 (sym c.in_err-check.ensures)
 
 pub returns-then-width-i : goal.returns-then-width-i
-unfolding columns_of
+unfolding columns_of answer
 returns-then-width-i c = let a = c.args in
-    rw (eq-eqb _ _ (passed (goal.at.returns-then-width-i c).Else-number-ne0), lt-ltb a.settings.width a.i c.if-width-i.true)
+    rw (accepted (goal.at.returns-then-width-i c).In_ok-check, lt-ltb a.settings.width a.i c.if-width-i.true)
 
 pub left-requires : goal.left-requires
-left-requires c = let w = (limits c.args.settings (passed (goal.at.left-requires c).Else-number-ne0)).width in
-    (w.0, w.1, c.if-width-i.false)
+left-requires c = let w = wide (goal.at.left-requires c).In_ok-check in (w.0, w.1, c.if-width-i.false)
 
 pub right-requires : goal.right-requires
-right-requires c = let w = (limits c.args.settings (passed (goal.at.right-requires c).Else-number-ne0)).width in
-    (w.0, w.1, c.if-width-i.false)
+right-requires c = let w = wide (goal.at.right-requires c).In_ok-check in (w.0, w.1, c.if-width-i.false)
 
 pub returns : goal.returns
-unfolding columns_of
+unfolding columns_of columns answer
 returns c = let a = c.args in
-    rw (eq-eqb _ _ (passed (goal.at.returns c).Else-number-ne0), le-ltb a.settings.width a.i c.if-width-i.false, c.left.ensures.is, c.right.ensures.is)
+    rw (accepted (goal.at.returns c).In_ok-check, le-ltb a.settings.width a.i c.if-width-i.false, c.left.ensures.is, c.right.ensures.is)

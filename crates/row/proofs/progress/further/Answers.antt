@@ -1,6 +1,6 @@
 -- `progress::further` meets its contract. Assumes nothing.
 use mathlib.Core.Path.{◌≡◌, sym, ◌∙◌, ap, subst}
-use Prim.Native.Nat.{ℕ, ◌+◌, ◌-◌, ◌≤◌, ◌<◌}
+use Prim.Native.Nat.{ℕ, ◌+◌, ◌≤◌, ◌<◌}
 use lib.ListN.{length}
 use native.Mathlib.Omega.{arith}
 use Rattle.settings.proofs.Laws.Settings.{Limits, limits}
@@ -60,9 +60,6 @@ plain-count-requires c = let z = sizes (goal.at.plain-count-requires c).Start in
     (omega (arith, z.here, z.before), omega (arith, z.most, z.before), z.marks ∙ ap mark_bytes (sym z.before))
 
 -- one tile
-pub pulse-pulsed-requires : goal.pulse-pulsed-requires
-pulse-pulsed-requires c = (c.requires.width_value.0, c.requires.width_value.1, (sizes (goal.at.pulse-pulsed-requires c).Start).here)
-
 pub put-requires : goal.put-requires
 put-requires c = let z = sizes (goal.at.put-requires c).Start in (omega (arith, z.here, z.times), omega (arith, z.most, z.times), omega (arith, z.times, z.letters))
 
@@ -74,52 +71,36 @@ returns-then-count-eq0 c = let z = sizes (goal.at.returns-then-count-eq0 c).Star
       onward = omega (arith, ap (λ (d : Progress). d.next) c.put.ensures.ends);
     }
 
-pub loop-so_far-init : goal.loop-so_far-init
-loop-so_far-init c = (c.requires.so_far, omega arith, omega arith)
-
-pub overflow_add-first : goal.overflow_add-first
-overflow_add-first c = let s = (goal.at.overflow_add-first c).Start in
-    omega (arith, (stretch s c.plain-count.ensures c.if-count-eq0.false).short, (sizes s).most)
-
 pub clock-clock-requires : goal.clock-clock-requires
 clock-clock-requires c = let s = (goal.at.clock-clock-requires c).Start in
-    let i = in_row s c.plain-count.ensures c.if-count-eq0.false c.loop-so_far.so_far.next c.loop-so_far-test.true in
+    let i = in_row s c.plain-count.ensures c.if-count-eq0.false c.loop-c.c (omega arith) in
     (omega (arith, i, (sizes s).drifts), omega (arith, i, (sizes s).phases))
 
 pub correct-pulsed-requires : goal.correct-pulsed-requires
 unfolding call
 correct-pulsed-requires c = let s = (goal.at.correct-pulsed-requires c).Start in
     let p = stretch s c.plain-count.ensures c.if-count-eq0.false in
-    rw c.clock-clock.ensures
-    (plain_tile (ok s) p c.loop-so_far.so_far.next c.loop-so_far.invariant.1 c.loop-so_far-test.true s.args.step s.requires.width_value.1)
+    rw c.clock-clock.ensures (plain_tile (ok s) p c.loop-c.c (omega arith) (omega arith) s.args.step s.requires.width_value.1)
 
 pub put-so_far-requires : goal.put-so_far-requires
 put-so_far-requires c = let s = (goal.at.put-so_far-requires c).Start in
     let z = sizes s in
-    let i = in_row s c.plain-count.ensures c.if-count-eq0.false c.loop-so_far.so_far.next c.loop-so_far-test.true in
-    let f = c.loop-so_far.invariant.0 in (
+    let i = in_row s c.plain-count.ensures c.if-count-eq0.false c.loop-c.c (omega arith) in
+    let f = c.loop-c.invariant.0 in (
       omega (arith, i, z.times, f.pulses.as_long),
       omega (arith, z.most, z.times, f.pulses.as_long),
       omega (arith, z.times, z.letters, f.pulses.as_long, f.letters.as_long),
     )
 
-pub loop-so_far-smaller : goal.loop-so_far-smaller
-loop-so_far-smaller c = omega (arith, c.loop-so_far-test.true, ap (λ (d : Progress). d.next) c.put-so_far.ensures.ends)
-
-pub loop-so_far-preserved : goal.loop-so_far-preserved
+pub loop-c-preserved : goal.loop-c-preserved
 unfolding call
-loop-so_far-preserved c = let s = (goal.at.loop-so_far-preserved c).Start in
+loop-c-preserved c = let s = (goal.at.loop-c-preserved c).Start in
     let z = sizes s in
     let p = stretch s c.plain-count.ensures c.if-count-eq0.false in
-    let k = c.loop-so_far.so_far.next in
-    let i = in_row s c.plain-count.ensures c.if-count-eq0.false k c.loop-so_far-test.true in (
-      tile_more c.loop-so_far.invariant.0 (omega (arith, i, z.times)) (omega (arith, i, z.letters)) (omega (arith, i))
-          (plain_pulse (ok s) p k c.loop-so_far.invariant.1 c.loop-so_far-test.true s.args.step s.requires.width_value.1
-          (rw c.clock-clock.ensures at c.correct-pulsed.ensures)) c.put-so_far.ensures.row c.put-so_far.ensures.letters c.put-so_far.ensures.ends,
-      omega (arith, ap (λ (d : Progress). d.next) c.put-so_far.ensures.ends, c.loop-so_far.invariant.1),
-      omega (arith, ap (λ (d : Progress). d.next) c.put-so_far.ensures.ends, c.loop-so_far-test.true),
+    let k = c.loop-c.c in
+    let i = in_row s c.plain-count.ensures c.if-count-eq0.false k (omega arith) in
+    let pulsed = plain_pulse (ok s) p k (omega arith) (omega arith) s.args.step s.requires.width_value.1 (rw c.clock-clock.ensures at c.correct-pulsed.ensures) in (
+      tile_more c.loop-c.invariant.0 (omega (arith, i, z.times)) (omega (arith, i, z.letters)) (omega (arith, i)) (rw c.loop-c.invariant.1 pulsed)
+          c.put-so_far.ensures.row c.put-so_far.ensures.letters c.put-so_far.ensures.ends,
+      omega (arith, ap (λ (d : Progress). d.next) c.put-so_far.ensures.ends, c.loop-c.invariant.1),
     )
-
-pub returns : goal.returns
-returns c = let i = c.loop-so_far.invariant in
-    record { filled = i.0; onward = omega (arith, i.1, c.loop-so_far-test.false, c.if-count-eq0.false) }

@@ -56,10 +56,10 @@ returns-then-most-eq-SILENT c = let f = c.requires in
       p = omega (
         arith,
         c.kept_or_early.ensures.p,
-        c.less-early.ensures,
+        c.saturating_sub-early.ensures,
         coded_neighbour_silent a.unit a.step a.own a.least a.most own least c.if-most-eq-SILENT.true,
       );
-      letter = rw c.less-early.ensures at c.kept_or_early.ensures.letter
+      letter = rw c.saturating_sub-early.ensures at c.kept_or_early.ensures.letter
           ∙ sym (letter_neighbour_silent a.unit a.step a.own a.least a.most f.unit_least own least c.if-most-eq-SILENT.true);
     }
 
@@ -76,11 +76,11 @@ returns-then-own-decided c = let f = c.requires in
       p = omega (
         arith,
         c.kept_or_early-then-own-decided.ensures.p,
-        c.less-early.ensures,
+        c.saturating_sub-early.ensures,
         by_heard (goal.at.returns-then-own-decided c).Else-most-eq-SILENT,
         waits a.unit a.step a.own a.least a.most early,
       );
-      letter = rw c.less-early.ensures at c.kept_or_early-then-own-decided.ensures.letter
+      letter = rw c.saturating_sub-early.ensures at c.kept_or_early-then-own-decided.ensures.letter
           ∙ sym (lettered (goal.at.returns-then-own-decided c).Else-most-eq-SILENT ∙ letter_waits f.unit_least a.step a.own f.ordered early);
     }
 

@@ -10,8 +10,8 @@ unfolding code_at
 returns-then-self-eq2 c = let x = c.args.self in
     let f = fit_is x c.requires in
     record {
-      least = rw (of_two x c.if-self-eq2.true, c.smaller-least.ensures) (least_two f);
-      most = rw (of_two x c.if-self-eq2.true, c.larger-most.ensures) (most_two f);
+      least = rw (of_two x c.if-self-eq2.true, c.min-least.ensures) (least_two f);
+      most = rw (of_two x c.if-self-eq2.true, c.max-most.ensures) (most_two f);
     }
 
 pub returns : goal.returns
@@ -20,6 +20,6 @@ returns c = let x = c.args.self in
     let f = fit_is x c.requires in
     let three : x.count ≡ 3 = omega (arith, f.least, f.most, c.if-self-eq2.false) in
     record {
-      least = rw (of_three x three, c.smaller.ensures, c.smaller-least.ensures) (least_three f);
-      most = rw (of_three x three, c.larger.ensures, c.larger-most.ensures) (most_three f);
+      least = rw (of_three x three, c.min.ensures, c.min-least.ensures) (least_three f);
+      most = rw (of_three x three, c.max.ensures, c.max-most.ensures) (most_three f);
     }

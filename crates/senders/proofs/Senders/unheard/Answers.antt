@@ -1,31 +1,27 @@
 -- `unheard` meets its contract: own, and two neighbours or three. Assumes nothing.
-use mathlib.Core.Path.{◌≡◌, sym}
-use Prim.Native.Nat.{ℕ, ◌≤◌}
-use Rattle.rule.specs.Stamp.{stamp_of, unheard_of}
-use native.Mathlib.Omega.{arith}
+use mir.Val.{bool_byte}
+use Rattle.std.proofs.Common.{◌≡◌, refl, sym, ℕ, ◌+◌, Bool, true, false, arith, cond, eqb}
+use Rattle.std.proofs.lemmas.Bool.{ne_eqb}
+use Rattle.rule.specs.Stamp.{heard, silent, silence, stamp_of, unheard_of}
 use Rattle.senders.specs.Senders.{code_at, stamp_at}
-use Rattle.senders.proofs.Laws.Senders.{fit_is, unheard_one, unheard_two, unheard_three}
+use Rattle.senders.proofs.Laws.Senders.{fit_is, unheard_two, unheard_three}
+use Rattle.senders.proofs.Senders.unheard.Goals.{then-self-eq3, else-self-eq3}
 use Rattle.senders.proofs.Senders.unheard.Goals as goal
 
--- 1 or 0
-few : {n : ℕ} (v : ℕ) → n ≡ unheard_of (stamp_of v) → n ≤ 1
-few v e = omega (arith, unheard_one (stamp_of v))
-
-pub overflow_add-three : goal.overflow_add-three
-overflow_add-three c = record { fits = omega (arith, few _ c.one.ensures, few _ c.one-2.ensures) }
-
-pub overflow_add-three-2 : goal.overflow_add-three-2
-overflow_add-three-2 c = record { fits = omega (arith, few _ c.one.ensures, few _ c.one-2.ensures, few _ c.one-3.ensures) }
-
-pub returns-then-self-eq2 : goal.returns-then-self-eq2
-unfolding stamp_at code_at
-returns-then-self-eq2 c = rw (c.one.ensures, c.one-2.ensures, c.one-3.ensures) (sym (unheard_two c.args.self c.if-self-eq2.true))
-
-pub overflow_add-result : goal.overflow_add-result
-overflow_add-result c = record { fits = omega (arith, few _ c.one.ensures, few _ c.one-2.ensures, few _ c.one-3.ensures, few _ c.one-4.ensures) }
+-- a comparison with silence, as a number
+one_is : (v : ℕ) → unheard_of (stamp_of v) ≡ bool_byte (eqb v silence)
+unfolding unheard_of stamp_of
+one_is v = by (eqb v silence)
+  where
+    by : (b : Bool) → unheard_of (cond b silent (heard v)) ≡ bool_byte b
+    by true = refl
+    by false = refl
 
 pub returns : goal.returns
 unfolding stamp_at code_at
 returns c = let f = fit_is c.args.self c.requires in
-    rw (c.one.ensures, c.one-2.ensures, c.one-3.ensures, c.one-4.ensures)
-    (sym (unheard_three c.args.self (omega (arith, f.least, f.most, c.if-self-eq2.false))))
+    rw (c.from.ensures, c.from-2.ensures, c.from-3.ensures, c.from-4.ensures)
+    (elim c.if-self-eq3.branch [
+      | then-self-eq3 w ↦ rw (unheard_three c.args.self w.if-self-eq3.true, w.third-is) (simp one_is)
+      | else-self-eq3 w ↦ rw (unheard_two c.args.self (omega (arith, f.least, f.most)), w.third-is, ne_eqb _ _ w.if-self-eq3.false) (simp one_is (omega arith))
+    ])

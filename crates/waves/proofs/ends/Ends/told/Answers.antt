@@ -1,5 +1,6 @@
 -- `told` meets its contract. Assumes nothing.
 use borrow.Author.Tests.{eq-eqb, ne_eqb}
+use Rattle.waves.specs.Reading.{between}
 use Rattle.waves.specs.Ends.{told, ToldWords}
 use Rattle.waves.proofs.ends.Ends.told.Goals as goal
 
@@ -16,5 +17,5 @@ unfolding ToldWords
 of-requires-2 c = (c.requires c.if-self-eq-OPEN.false).1
 
 pub returns : goal.returns
-unfolding told
+unfolding told between
 returns c = rw (ne_eqb _ _ c.if-self-eq-OPEN.false, c.of.ensures, c.of-2.ensures)

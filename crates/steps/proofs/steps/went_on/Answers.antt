@@ -1,8 +1,0 @@
--- `steps::went_on` meets its contract. Assumes nothing.
-use mathlib.Core.Path.{refl}
-use Rattle.steps.specs.Take.{taken}
-use Rattle.steps.proofs.steps.went_on.Goals as goal
-
-pub returns : goal.returns
-unfolding taken
-returns c = refl
