@@ -1,10 +1,10 @@
 -- A step that is lent the last row's place to write, and a copy of that row to read. Assumes nothing.
-use mathlib.Core.Path.{◌≡◌, sym, ◌∙◌}
+use mathlib.Core.Path.{◌≡◌, ◌∙◌}
 use mathlib.Core.Bool.{true}
 use mathlib.Core.List.{List}
 use Rattle.std.specs.Prelude.{Result}
-use Prim.Native.Nat.{ℕ, ◌-◌}
-use lib.ListN.{length, take}
+use Prim.Native.Nat.{ℕ}
+use lib.ListN.{length}
 use Rattle.row.specs.Row.{Pulses, pulses}
 use Rattle.stages.specs.Fit.{width_of, wall_fits}
 use Rattle.stages.specs.declared.Wall.{Wall}
