@@ -11,7 +11,7 @@ use std::io;
 use std::io::{Printer, Read, Write};
 
 // A line that is a case.
-#[derive(Drop)]
+#[derive(Clone, Copy)]
 pub struct Case<'a> {
     // The letter in front.
     pub kind: u8,

@@ -1,6 +1,7 @@
 // A number as cases write it: decimal digits, or an x and hexadecimal digits. One with a '-' before
 // its digits is given as its 64 bits. A quote and up to eight characters are the number that their
 // bytes make, the first of them the highest.
+ghost use Rattle.std.specs.Prelude.{◌<◌, IfSome};
 
 // The number of a word, or none where it is no number or 64 bits don't hold it.
 pub fn read(word: &[u8]) -> Option<u64> {
@@ -22,7 +23,9 @@ fn spelt<F: Fn(u8) -> Option<u64>>(word: &[u8], base: u64, digit: F) -> Option<u
 }
 
 // What a digit stands for.
-fn digit(byte: u8, base: u64) -> Option<u64> {
+fn digit(byte: u8, base: u64) -> Option<u64>
+    ensures { IfSome result (λ value. (value < base) × (value < 256)) }
+{
     let value = match byte {
         b'0'..=b'9' => byte - b'0',
         b'a'..=b'f' => byte - b'a' + 10,

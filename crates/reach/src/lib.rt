@@ -7,7 +7,8 @@ pub mod survey;
 ghost use Rattle.std.specs.Prelude.{◌≡◌, ◌≤◌, ◌<◌, length};
 ghost use Rattle.runs.specs.Reach.{widest_gap};
 ghost use Rattle.reach.specs.Span.{first_within};
-ghost use Rattle.reach.specs.Search.{gap_of, outside_wall, reach_of, reach_in_row};
+ghost use Rattle.settings.specs.Settings.{settings_refusal};
+ghost use Rattle.reach.specs.Search.{gap_of, outside_wall, range_within, reach_of, reach_in_row};
 
 use settings::Settings;
 use settings::refusal::Refusal;
@@ -40,17 +41,7 @@ pub fn reach(settings: Settings, gap: u64, rows: u64, column: u64) -> Result<Opt
     ensures { result ≡ reach_of settings gap rows column }
 {
     settings.check()?;
-    if outside(settings, gap, rows, column) {
-        return Ok(None);
-    }
-    let width = settings.width;
-    let from_end = first(width, width - 1 - column, rows);
-    let ticks = 2 * gap + 8 * settings.unit + (rows - 1);
-    Ok(Some(Range {
-        ticks,
-        first: first(width, column, rows),
-        last: width - 1 - from_end,
-    }))
+    Ok(within(settings, gap, rows, column))
 }
 
 // Of a tile of the column in row f, in a later row of the wall, where B of row f is the gap.
@@ -70,7 +61,25 @@ pub fn reach_in_row(
     if settings.rows < later {
         return Ok(None);
     }
-    reach(settings, gap, later - f, column)
+    Ok(within(settings, gap, later - f, column))
+}
+
+// Of settings that pass.
+fn within(settings: Settings, gap: u64, rows: u64, column: u64) -> Option<Range>
+    requires { settings_refusal settings ≡ 0 }
+    ensures { result ≡ range_within settings gap rows column }
+{
+    if outside(settings, gap, rows, column) {
+        return None;
+    }
+    let width = settings.width;
+    let from_end = first(width, width - 1 - column, rows);
+    let ticks = 2 * gap + 8 * settings.unit + (rows - 1);
+    Some(Range {
+        ticks,
+        first: first(width, column, rows),
+        last: width - 1 - from_end,
+    })
 }
 
 fn outside(settings: Settings, gap: u64, rows: u64, column: u64) -> bool

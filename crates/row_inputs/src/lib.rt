@@ -47,13 +47,22 @@ impl From<FaultyRow> for Inputs {
     // Times that step up and down along the row, drifts and phases that step up within a range, and delays
     // that differ, with the arrival where the sender is faulty.
     fn from(row: FaultyRow) -> Inputs {
-        Inputs {
+        let mut inputs = Inputs {
             times: array::from_fn(|c| 1_000_000 + c as u64 * 37 % 101),
-            marks: array::from_fn(|byte| marks(row.column, byte as u64)),
+            marks: [0; 1024],
             drifts: array::from_fn(|c| (c as u64 * 13 % 101) as u32),
-            phases: phases(row.step % 1_000_000),
-            links: links(row.width.min(256), row.column, row.arrival),
-        }
+            phases: [0; 1024],
+            links: [0; 1024],
+        };
+        mark(&mut inputs.marks, row.column);
+        step_up(&mut inputs.phases, row.step % 1_000_000);
+        connect(
+            &mut inputs.links,
+            row.width.min(256),
+            row.column,
+            row.arrival,
+        );
+        inputs
     }
 }
 
@@ -78,31 +87,34 @@ impl From<Call> for Inputs {
     }
 }
 
-// A byte of the marks of a row in which one column is marked.
-fn marks(column: u64, byte: u64) -> u8 {
-    if column / 8 == byte {
-        1 << (column % 8)
-    } else {
-        0
+// Marks one column.
+fn mark(marks: &mut [u8; 1024], column: u64) {
+    if let Some(byte) = marks.get_mut((column / 8) as usize) {
+        *byte = 1 << (column % 8);
     }
 }
 
-fn phases(step: u64) -> [u32; 1024]
+// As many phases as the widest row has.
+fn step_up(phases: &mut [u32; 1024], step: u64)
     requires { step < 1000000 }
 {
-    array::from_fn(|c| (c as u64 * step % 1_000_000) as u32)
+    for (c, phase) in phases[..256].iter_mut().enumerate() {
+        *phase = (c as u64 * step % 1_000_000) as u32;
+    }
 }
 
-fn links(width: u64, column: u64, arrival: u64) -> [u64; 1024]
+// As many link values as a row of the width has.
+fn connect(links: &mut [u64; 1024], width: u64, column: u64, arrival: u64)
     requires { width ≤ 256 }
 {
-    array::from_fn(|at| {
-        if sender(width, at as u64) == column.saturating_add(3) {
+    let faulty = column.saturating_add(3);
+    for (at, link) in links[..3 * width as usize + 2].iter_mut().enumerate() {
+        *link = if sender(width, at as u64) == faulty {
             arrival
         } else {
             990 + at as u64 % 11 * 7 % 11
-        }
-    })
+        };
+    }
 }
 
 // Three more than the column of the tile that a link value is of. The first two columns and the last two

@@ -42,11 +42,17 @@ impl Senders {
         }
     }
 
-    // Whether there are two or three neighbours, and each stamp is a reading or silence.
+    // Whether there are two or three neighbours, and each stamp is a reading or silence. Written out, since an operation on a
+    // running tile has no loop.
+    #[tactic(auto, unfolding(crate::specs::Senders::fit, crate::specs::Senders::code_at))]
     pub fn fit(self) -> bool
         ensures { result ≡ fit self }
     {
-        (2..=3).contains(&self.count) && self.stamps.iter().all(|s| stamp_fits(*s))
+        (2..=3).contains(&self.count)
+            && stamp_fits(self.stamps[0])
+            && stamp_fits(self.stamps[1])
+            && stamp_fits(self.stamps[2])
+            && stamp_fits(self.stamps[3])
     }
 
     // Whether a sender is heard, so that its next pulse is a repeat.

@@ -1,9 +1,21 @@
--- What the definitions give at settings written out: the numbers 1 to 9 at and past each limit, c and J. Each statement is
--- proved in proofs/Cases.antt, under its name in small letters. Assumes nothing.
+-- The number of each refusal, and what the definitions give at settings written out: the numbers 1 to 9 at and past each limit, c and J.
+-- Each statement is proved in proofs/Cases.antt, under its name in small letters. Assumes nothing.
 use Rattle.std.specs.Prelude.{◌≡◌, ℕ, Ok, Err}
+use Rattle.settings.specs.Refusal.{number}
 use Rattle.settings.specs.Settings.{settings, drift_cost, step, step_of, settings_refusal, checked}
 use Rattle.settings.specs.declared.Settings.{Settings}
-use Rattle.settings.specs.declared.refusal.Refusal.TheVariants.{UnitCost}
+use Rattle.settings.specs.declared.refusal.Refusal.TheVariants.{Width, Rows, Delay, Uncertainty, Hold, Drift, Unit, UnitCost, UnitsHeld, Neighbours, Stamp, Silences, Lengths, StrayMark, LateTime, Crowded, TileDrift, Link, LateSide, Tag, Size, Short, GoesOn, LateStart, Waves, NoGap, Phase, Sender}
+
+-- §13.1 the numbers as they are asked for: where a statement of another crate names a refusal, this is the number that it is
+unfoldable pub RefusalNumbers : Type 0
+RefusalNumbers =
+    (number Width ≡ 1) × (number Rows ≡ 2) × (number Delay ≡ 3) × (number Uncertainty ≡ 4) × (number Hold ≡ 5) × (number Drift ≡ 6)
+    × (number Unit ≡ 7) × (number UnitCost ≡ 8) × (number UnitsHeld ≡ 9)
+    × (number Neighbours ≡ 11) × (number Stamp ≡ 12) × (number Silences ≡ 13)
+    × (number Lengths ≡ 21) × (number StrayMark ≡ 22) × (number LateTime ≡ 23) × (number Crowded ≡ 24) × (number TileDrift ≡ 25) × (number Link ≡ 26)
+    × (number LateSide ≡ 31)
+    × (number Tag ≡ 41) × (number Size ≡ 42) × (number Short ≡ 43) × (number GoesOn ≡ 44) × (number LateStart ≡ 45)
+    × (number Waves ≡ 51) × (number NoGap ≡ 52) × (number Phase ≡ 53) × (number Sender ≡ 54)
 
 infix 50 ◌is◌
 -- §2.5 W, R, d, u, A, r and h, in this order, are given this number, which is 0 where they pass

@@ -33,6 +33,27 @@ field_accepted tag size bs e =
 pub field_there : (tag size : ℕ) (bs : List ℕ) → field_refusal tag size bs ≡ 0 → 3 + size ≤ length bs
 field_there tag size bs e = (field_accepted tag size bs e).whole
 
+-- the number, by the first test that applies
+module _ (tag size : ℕ) (bs : List ℕ) where
+  pub few_left : length bs < 3 → field_refusal tag size bs ≡ 43
+  unfolding field_refusal field_cause field_tests first
+  few_left i = rw (lt-ltb (length bs) 3 i)
+
+  module _ (three : 3 ≤ length bs) where
+    pub other_tag : (get_or bs 0 0 ≡ tag → ⊥) → field_refusal tag size bs ≡ 41
+    unfolding field_refusal field_cause field_tests first
+    other_tag n = rw (le-ltb (length bs) 3 three, ne_eqb (get_or bs 0 0) tag n)
+
+    module _ (due : get_or bs 0 0 ≡ tag) where
+      pub other_size : (big_endian 2 bs 1 ≡ size → ⊥) → field_refusal tag size bs ≡ 42
+      unfolding field_refusal field_cause field_tests first
+      other_size n = rw (le-ltb (length bs) 3 three, eq-eqb (get_or bs 0 0) tag due, ne_eqb (big_endian 2 bs 1) size n)
+
+      pub body_cut : big_endian 2 bs 1 ≡ size → length bs < 3 + size → field_refusal tag size bs ≡ 43
+      unfolding field_refusal field_cause field_tests first
+      body_cut long i =
+          rw (le-ltb (length bs) 3 three, eq-eqb (get_or bs 0 0) tag due, eq-eqb (big_endian 2 bs 1) size long, lt-ltb (length bs) (3 + size) i)
+
 -- a field that is there is not turned away
 pub whole : (tag size : ℕ) (bs : List ℕ) → 3 ≤ length bs → get_or bs 0 0 ≡ tag → big_endian 2 bs 1 ≡ size → 3 + size ≤ length bs → field_refusal tag size bs ≡ 0
 unfolding field_refusal field_cause field_tests first

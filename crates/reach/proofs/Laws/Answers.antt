@@ -114,6 +114,10 @@ module _ (s : Settings) (b f l k : ℕ) where
   row_outside ok (inl i) = rw (passes s ok, le-ltb f l i)
   row_outside ok (inr i) = rw (passes s ok, lt-ltb s.rows l i, and-false (ltb f l))
 
+  pub row_within : settings_refusal s ≡ 0 → f < l → l ≤ s.rows → reach_in_row s b f l k ≡ Ok (range_within s b (l - f) k)
+  unfolding reach_in_row answer
+  row_within ok i j = rw (passes s ok, lt-ltb f l i, le-ltb s.rows l j)
+
   pub row_later : settings_refusal s ≡ 0 → f < l → l ≤ s.rows → reach_in_row s b f l k ≡ reach_of s b (l - f) k
   unfolding reach_in_row reach_of answer
   row_later ok i j = rw (passes s ok, lt-ltb f l i, le-ltb s.rows l j)

@@ -5,5 +5,5 @@ use Rattle.row_inputs.proofs.InputsFromFaultyRow.from.Goals as goal
 pub returns : goal.returns
 returns c = (
   λ i h. let (p, q, e) = c.from_fn.ensures.items.at i 0 (omega (arith, c.from_fn.ensures.items.long, h)) in search rules,
-  λ i h. let (p, q, e) = c.from_fn-3.ensures.items.at i 0 (omega (arith, c.from_fn-3.ensures.items.long, h)) in search rules,
+  λ i h. let (p, q, e) = c.from_fn-2.ensures.items.at i 0 (omega (arith, c.from_fn-2.ensures.items.long, h)) in search rules,
 )
