@@ -6,8 +6,8 @@ pub mod survey;
 
 ghost use Rattle.std.specs.Prelude.{◌≡◌, ◌≤◌, ◌<◌, length};
 ghost use Rattle.runs.specs.Reach.{widest_gap};
-ghost use Rattle.reach.specs.Span.{first_within};
 ghost use Rattle.settings.specs.Settings.{settings_refusal};
+ghost use Rattle.reach.specs.Span.{first_within};
 ghost use Rattle.reach.specs.Search.{gap_of, outside_wall, range_within, reach_of, reach_in_row};
 
 use settings::Settings;
@@ -64,7 +64,7 @@ pub fn reach_in_row(
     Ok(within(settings, gap, later - f, column))
 }
 
-// Of settings that pass.
+// As `reach`, of settings that pass.
 fn within(settings: Settings, gap: u64, rows: u64, column: u64) -> Option<Range>
     requires { settings_refusal settings ≡ 0 }
     ensures { result ≡ range_within settings gap rows column }

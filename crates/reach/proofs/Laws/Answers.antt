@@ -1,6 +1,6 @@
 -- Each answer by the inequalities that decide it. Assumes nothing.
-use mathlib.Core.Path.{◌≡◌, refl, ◌∙◌}
-use Rattle.std.specs.Prelude.{Option, Some, None, Result, Ok, Err}
+use mathlib.Core.Path.{◌≡◌, refl, sym, ◌∙◌}
+use Rattle.std.specs.Prelude.{Option, Some, None, Ok, Err}
 use mathlib.Core.Bool.{true, false, not, ◌||◌, or-true, and-false}
 use mathlib.Core.List.{List}
 use mathlib.Core.Logic.{◌⊎◌, inl, inr}
@@ -9,7 +9,7 @@ use lib.Dec.{eqb, ltb}
 use lib.ListN.{length}
 use native.Mathlib.Omega.{arith}
 use borrow.Author.Tests.{eq-eqb, ne_eqb, lt-ltb, le-ltb}
-use Rattle.settings.specs.Refusal.{first, refused, or_else, answer}
+use Rattle.settings.specs.Refusal.{first, or_else, answer}
 use Rattle.settings.specs.Settings.{settings_cause, settings_refusal}
 use Rattle.settings.specs.declared.Settings.{Settings}
 use Rattle.settings.specs.declared.refusal.Refusal.{Refusal}
@@ -17,8 +17,7 @@ use Rattle.settings.specs.declared.refusal.Refusal.TheVariants.{Lengths}
 use Rattle.settings.proofs.Laws.Refusal.{none_of}
 use Rattle.settings.proofs.Laws.Settings.{limits}
 use Rattle.rule.specs.Stamp.{latest_stamp}
-use Rattle.runs.specs.Reach.{widest_gap, reach_ticks}
-use Rattle.reach.specs.Span.{first_within, last_within}
+use Rattle.runs.specs.Reach.{widest_gap}
 use Rattle.reach.specs.Search.{gap_of, outside_wall, range_of, range_within, reach_of, reach_in_row}
 use Rattle.reach.specs.Survey.{surveyed, with_reach, with_gap, surveyed_of, last_reach}
 use Rattle.reach.specs.Answers.{gap_B, reached_outside, reached_ticks, reached_first, reached_last, surveyed_outside, surveyed_B, surveyed_largest, GapIs, ReachedIs, SurveyedIs, GapAnswer, ReachAnswer, RowAnswer, SurveyAnswer}
@@ -80,6 +79,10 @@ module _ (s : Settings) (b n k : ℕ) where
   unfolding reach_of answer
   reach_refused r e = rw e
 
+  pub reach_within : settings_refusal s ≡ 0 → reach_of s b n k ≡ Ok (range_within s b n k)
+  unfolding reach_of answer
+  reach_within ok = rw (passes s ok)
+
   pub reach_outside : settings_refusal s ≡ 0 → outside_wall s b n k ≡ true → reach_of s b n k ≡ Ok None
   unfolding reach_of range_within answer
   reach_outside ok e = rw (passes s ok, e)
@@ -119,8 +122,7 @@ module _ (s : Settings) (b f l k : ℕ) where
   row_within ok i j = rw (passes s ok, lt-ltb f l i, le-ltb s.rows l j)
 
   pub row_later : settings_refusal s ≡ 0 → f < l → l ≤ s.rows → reach_in_row s b f l k ≡ reach_of s b (l - f) k
-  unfolding reach_in_row reach_of answer
-  row_later ok i j = rw (passes s ok, lt-ltb f l i, le-ltb s.rows l j)
+  row_later ok i j = row_within ok i j ∙ sym (reach_within s b (l - f) k ok)
 
   pub row_answer : RowAnswer s b f l k
   unfolding ReachedIs reached_outside reached_ticks reached_first reached_last settings_refusal

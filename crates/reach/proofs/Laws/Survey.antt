@@ -7,7 +7,6 @@ use lib.ListN.{length, get_or, take}
 use native.Mathlib.Omega.{arith}
 use borrow.Author.Tests.{le-ltb}
 use Rattle.std.specs.Prelude.{Option, Some, None, Result, Ok, Err}
-use Rattle.settings.specs.Refusal.{answer}
 use Rattle.settings.specs.Settings.{settings_cause, settings_refusal}
 use Rattle.rule.specs.Stamp.{latest_stamp}
 use Rattle.settings.specs.declared.Settings.{Settings}

@@ -1,8 +1,7 @@
 -- `within` meets its contract. Assumes nothing.
-use mathlib.Core.Path.{◌≡◌, sym, ◌∙◌}
+use mathlib.Core.Path.{sym, ◌∙◌}
 use Prim.Native.Nat.{◌-◌, ◌≤◌}
 use native.Mathlib.Omega.{arith}
-use Rattle.settings.specs.Settings.{settings_refusal}
 use Rattle.settings.proofs.Laws.Settings.{limits}
 use Rattle.reach.specs.Span.{last_within}
 use Rattle.runs.specs.Reach.{reach_ticks}
